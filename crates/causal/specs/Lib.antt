@@ -1,0 +1,5 @@
+pub mod Tables
+pub mod Holding
+pub mod Choosing
+pub mod Posting
+pub mod Worked

@@ -1,0 +1,8 @@
+use native.Mathlib.Omega.{arith}
+use Rattle.stamps.proofs.BitSets.{bit-above}
+use Rattle.stamps.proofs.keyset.KeySet.empty.Needs as need
+use Rattle.stamps.specs.KeySets.{has}
+
+pub returns : need.returns
+unfolding has
+returns c k = bit-above 0 0 k (omega arith) (omega arith)

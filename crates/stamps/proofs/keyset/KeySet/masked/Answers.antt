@@ -1,0 +1,7 @@
+use Rattle.stamps.proofs.BitSets.{bit-and}
+use Rattle.stamps.proofs.keyset.KeySet.masked.Needs as need
+use Rattle.stamps.specs.KeySets.{has}
+
+pub returns : need.returns
+unfolding has
+returns c k = bit-and (c .args .self .bits) (c .args .other .bits) k
