@@ -1,34 +1,34 @@
 -- Posting: the next counter, the causes, and their joined reaches.
-use mathlib.Core.Path.{_≡_, refl, sym, ap, ap₂, subst, _∙_}
 use mathlib.Core.Bool.{Bool, true, false, cond, _&&_}
 use mathlib.Core.List.{List, [], _∷_, _++_, map}
 use mathlib.Core.Logic.{_⊎_, inl, inr, ⊎-elim}
-use Prim.Native.Nat.{ℕ, zero, suc, _+_, _≤_, _<_, max}
-use native.Mathlib.Nat.{le-antisymm, le-refl, add-zero}
+use mathlib.Core.Path.{_≡_, refl, sym, ap, ap₂, subst, _∙_}
+use Prim.Native.Nat.{ℕ, zero, suc, _+_, _≤_, _<_}
+use native.Mathlib.Nat.{le-antisymm, le-refl}
 use native.Mathlib.Omega.{arith}
 use lib.Dec.{eqb}
 use lib.ListN.{length, getD, length-append}
-use Rattle.std.proofs.shelf.Lists.{append-nil, map-append}
-use Rattle.std.proofs.shelf.Tests.{cases-eq, cases-lt, cond-true, cond-false, eq-eqb, ne-eqb}
 use Rattle.std.specs.Options.{isSome}
 use Rattle.std.specs.Vec.{listOf}
-use Rattle.std.specs.declared.option.Option.{Option}
 use Rattle.std.specs.declared.option.Option.the-variants.{Some, None}
-use Rattle.versions.specs.Joins.{joined, joinedFrom}
+use Rattle.std.specs.declared.option.Option.{Option}
+use Rattle.std.proofs.shelf.Lists.{append-nil, map-append}
+use Rattle.std.proofs.shelf.Tests.{cases-eq, cases-lt, cond-true, cond-false, eq-eqb, ne-eqb}
 use Rattle.stamps.specs.Keys.{countBelow, highestOf}
 use Rattle.stamps.specs.Numbers.{keys}
-use Rattle.versions.specs.Rows.{stamp, stampAt, rowOf, zeros, joinedStamps, joinedRows, Covers}
 use Rattle.stamps.specs.Stamps.{counterOf, isStamp}
+use Rattle.stamps.specs.declared.stamp.Stamp.{Stamp}
+use Rattle.stamps.proofs.Counting.{highest-bound, highest-least}
+use Rattle.stamps.proofs.Stamping.{counter-rises, counter-none}
+use Rattle.versions.specs.Joins.{joined, joinedFrom}
+use Rattle.versions.specs.Rows.{stamp, stampAt, zeros, joinedStamps, joinedRows, Covers}
 use Rattle.versions.specs.Versions.{isVersion, reach}
 use Rattle.versions.specs.declared.row.Row.{Row}
-use Rattle.stamps.specs.declared.stamp.Stamp.{Stamp}
 use Rattle.versions.specs.declared.version.Version.{Version}
-use Rattle.stamps.proofs.Counting.{highest-bound, highest-least}
+use Rattle.versions.proofs.Rowing.{stamp-read, stamp-past, stamp-at-row, stamp-at-join, stamp-at-zeros, covers-by-keys}
 use Rattle.versions.proofs.Versioning.{Parts, parts-of-version, older-stamp, row-older-at}
-use Rattle.versions.proofs.Rowing.{stamp-read, stamp-past, stamp-at-row, stamp-at-join, stamp-at-zeros, row-length, covers-by-keys}
-use Rattle.stamps.proofs.Stamping.{counter-rises, counter-none}
+use Rattle.causal.specs.Posting.{nextCounter, causesBelow, causesOf, rowOfPost, out-of-range, counter-spent, cause-not-older, drafted, OneDraft}
 use Rattle.causal.specs.Tables.{Table, heldStamp, faceOf, HoldsVersions, Keyed, Causal}
-use Rattle.causal.specs.Posting.{nextCounter, causesBelow, causesOf, rowOfPost, Drafted, out-of-range, counter-spent, cause-not-older, drafted, OneDraft}
 use Rattle.causal.proofs.Tabling.{stamp-at-face}
 
 -- ---- the next counter

@@ -1,20 +1,20 @@
 -- Choosing: why the largest set that fits exists, how striking misfits finds it, and what follows from it.
-use mathlib.Core.Path.{_≡_, refl, sym, ap, subst, _∙_}
 use mathlib.Core.Bool.{Bool, true, false, cond, not, _&&_, _||_}
 use mathlib.Core.Logic.{_⊎_, inl, inr, ⊎-elim}
-use Prim.Native.Nat.{ℕ, _+_, _≤_, _<_}
+use mathlib.Core.Path.{_≡_, refl, sym, ap, subst, _∙_}
+use Prim.Native.Nat.{ℕ, _+_, _≤_}
 use native.Mathlib.Nat.{le-refl}
 use native.Mathlib.Omega.{arith}
 use lib.Dec.{eqb, ltb}
-use Rattle.std.proofs.shelf.Tests.{and-parts, and-from, or-cases, or-left, or-right, ltb-true, lt-ltb, le-ltb, cases-bool, cases-eq, both-ways, cond-true, cond-false, eqb-true, ne-eqb, not-from-false}
-use Rattle.std.specs.declared.option.Option.{Option}
 use Rattle.std.specs.declared.option.Option.the-variants.{Some}
+use Rattle.std.specs.declared.option.Option.{Option}
+use Rattle.std.proofs.shelf.Tests.{and-parts, and-from, or-cases, or-left, or-right, ltb-true, le-ltb, cases-bool, cases-eq, both-ways, cond-true, cond-false, ne-eqb, not-from-false}
 use Rattle.stamps.specs.Keys.{countKeys}
 use Rattle.stamps.specs.Numbers.{keys}
+use Rattle.stamps.proofs.Counting.{count-same, count-split}
 use Rattle.versions.specs.declared.version.Version.{Version}
-use Rattle.stamps.proofs.Counting.{count-same, count-split, count-le}
+use Rattle.causal.specs.Choosing.{isNewer, MadeOf, Contained, Chosen, OneOutcome, WithheldExactly, putIn, Fits, union, UnionFits, LargestFit}
 use Rattle.causal.specs.Tables.{Table, heldStamp, faceOf, CoversHeld, Causal}
-use Rattle.causal.specs.Choosing.{isNewer, MadeOf, Contained, Chosen, OneOutcome, WithheldHere, WithheldExactly, putIn, Fits, union, UnionFits, LargestFit}
 use Rattle.causal.proofs.Tabling.{held-rises, causal-same}
 
 module _ (old answers : Table) where

@@ -1,22 +1,22 @@
 -- Tables of versions: reading them, putting versions in, their faces.
+use mathlib.Core.Bool.{cond}
+use mathlib.Core.List.{List}
+use mathlib.Core.Logic.{_⊎_, ⊎-elim, _≢_}
 use mathlib.Core.Path.{_≡_, refl, sym, ap, subst, _∙_}
-use mathlib.Core.Bool.{Bool, true, false, cond}
-use mathlib.Core.List.{List, [], _∷_}
-use mathlib.Core.Logic.{_⊎_, inl, inr, ⊎-elim, _≢_}
 use Prim.Native.Nat.{ℕ, zero, suc, _≤_, _<_}
 use native.Mathlib.Nat.{le-of-eq}
 use native.Mathlib.Omega.{arith}
 use lib.Dec.{eqb}
 use lib.ListN.{length, getD, set, replicate}
+use Rattle.std.specs.declared.option.Option.the-variants.{Some, None}
+use Rattle.std.specs.declared.option.Option.{Option}
 use Rattle.std.proofs.shelf.Lists.{getD-set-same, getD-set-other, getD-past, length-set}
 use Rattle.std.proofs.shelf.Tests.{cases-eq, cond-true, cond-false, eq-eqb, ne-eqb}
-use Rattle.std.specs.declared.option.Option.{Option}
-use Rattle.std.specs.declared.option.Option.the-variants.{Some, None}
 use Rattle.stamps.specs.Numbers.{keys}
+use Rattle.stamps.specs.declared.stamp.Stamp.{Stamp}
 use Rattle.versions.specs.Rows.{stamp, stampAt, Covers}
 use Rattle.versions.specs.declared.row.Row.{Row}
 use Rattle.versions.specs.declared.version.Version.{Version}
-use Rattle.stamps.specs.declared.stamp.Stamp.{Stamp}
 use Rattle.versions.proofs.Rowing.{stamp-read, stamp-at-row, row-built, row-length, covers-by-keys, covers-trans}
 use Rattle.causal.specs.Tables.{Table, tableOf, heldStamp, faceOf, CoversHeld, Causal}
 

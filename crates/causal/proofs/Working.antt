@@ -1,22 +1,21 @@
 -- The worked facts, by computation.
-use mathlib.Core.Path.{_≡_, refl, sym, ap, _∙_}
+use mathlib.Core.Bool.{cond}
 use mathlib.Core.Logic.{⊎-elim}
+use mathlib.Core.Path.{_≡_, refl, ap, _∙_}
 use Prim.Native.Nat.{ℕ, _≤_, _<_}
 use native.Mathlib.Nat.{le-refl}
 use native.Mathlib.Omega.{arith}
 use lib.Dec.{eqb}
-use mathlib.Core.Bool.{cond}
-use Rattle.std.proofs.shelf.Tests.{cases-eq, cond-true, cond-false, eq-eqb, ne-eqb}
-use Rattle.std.specs.declared.option.Option.the-variants.{Some, None}
+use Rattle.std.specs.declared.option.Option.the-variants.{None}
+use Rattle.std.proofs.shelf.Tests.{cases-eq, cond-false, ne-eqb}
 use Rattle.stamps.specs.Numbers.{keys}
 use Rattle.stamps.specs.Stamps.{stampOf, counterOf, terminalOf}
 use Rattle.stamps.specs.declared.value.Value.{Value}
-use Rattle.versions.specs.Rows.{stampAt, rowOf, zeros, Covers}
-use Rattle.versions.specs.declared.version.Version.{Version}
-use Rattle.versions.proofs.Rowing.{stamp-at-row, stamp-at-zeros, row-same, covers-by-keys}
-use Rattle.causal.specs.Tables.{Table, faceOf, Causal}
+use Rattle.versions.specs.Rows.{stampAt, rowOf, Covers}
+use Rattle.versions.proofs.Rowing.{stamp-at-row, stamp-at-zeros, covers-by-keys}
+use Rattle.causal.specs.Tables.{faceOf, Causal}
 use Rattle.causal.specs.Worked.{WorkedFacts, rowAt5, version16, version19, alone, together}
-use Rattle.causal.proofs.Tabling.{none-some, some-same, held-with, stamp-at-face}
+use Rattle.causal.proofs.Tabling.{none-some, held-with}
 
 -- the empty table is causal
 empty-causal : Causal (λ k. None)

@@ -1,7 +1,7 @@
 -- What a cut holds, and what answers give.
 use Rattle.causal.specs.Tables.{Table, tableOf}
-use Rattle.causal.specs.declared.cut.Cut.{Cut}
 use Rattle.causal.specs.declared.answers.Answers.{Answers}
+use Rattle.causal.specs.declared.cut.Cut.{Cut}
 
 -- what a cut holds at each key
 abbrev pub holding : Cut → Table

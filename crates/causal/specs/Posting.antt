@@ -1,23 +1,23 @@
 -- A post: its counter, its causes, its row, and how it enters the cut.
-use mathlib.Core.Path.{_≡_}
 use mathlib.Core.Bool.{Bool, true, cond}
 use mathlib.Core.List.{List, [], _++_, map}
+use mathlib.Core.Path.{_≡_}
 use Prim.Native.Nat.{ℕ, zero, suc, _+_, _≤_, _<_}
 use lib.ListN.{length}
 use Rattle.std.specs.Vec.{listOf}
-use Rattle.std.specs.declared.result.Result.{Result}
 use Rattle.std.specs.declared.result.Result.the-variants.{Ok, Err}
-use Rattle.versions.specs.Joins.{joined}
+use Rattle.std.specs.declared.result.Result.{Result}
 use Rattle.stamps.specs.Keys.{highestOf}
 use Rattle.stamps.specs.Numbers.{keys, terminals, counter-limit}
-use Rattle.versions.specs.Rows.{stamp, stampAt, zeros, joinedRows, Covers}
 use Rattle.stamps.specs.Stamps.{stampOf, counterOf}
 use Rattle.stamps.specs.Values.{inRange}
-use Rattle.versions.specs.Versions.{isVersion, reach}
-use Rattle.stamps.specs.declared.refusal.Refusal.{Refusal}
 use Rattle.stamps.specs.declared.refusal.Refusal.the-variants.{OutOfRange, CounterSpent, CauseNotOlder}
-use Rattle.versions.specs.declared.row.Row.{Row}
+use Rattle.stamps.specs.declared.refusal.Refusal.{Refusal}
 use Rattle.stamps.specs.declared.value.Value.{Value}
+use Rattle.versions.specs.Joins.{joined}
+use Rattle.versions.specs.Rows.{stamp, stampAt, zeros, joinedRows, Covers}
+use Rattle.versions.specs.Versions.{isVersion, reach}
+use Rattle.versions.specs.declared.row.Row.{Row}
 use Rattle.versions.specs.declared.version.Version.{Version}
 use Rattle.causal.specs.Tables.{Table, heldStamp, faceOf}
 use Rattle.causal.specs.declared.draft.Draft.{Draft}
@@ -30,6 +30,7 @@ counterAfter r = highestOf (λ k. counterOf (stampAt r k)) + 1
 abbrev pub nextCounter : Table → ℕ
 nextCounter t = counterAfter (faceOf t)
 
+-- the versions held at the keys of a sale below n, lowest key first
 unfoldable pub causesBelow : ℕ → Table → (ℕ → Bool) → List Version
 causesBelow zero t sale = []
 causesBelow (suc n) t sale = causesBelow n t sale ++ cond (sale n) (listOf (t n)) []
@@ -70,7 +71,7 @@ pub data Drafted (t : Table) (terminal key : ℕ) (value : Value) (sale : ℕ �
       → answer ≡ Ok (record { version = postVersion key value (nextCounter t) terminal (causesOf t sale); causes = length (causesOf t sale) })
       → Drafted t terminal key value sale answer
 
--- what a drafted version is besides: a version, covered by the face, above every stamp of the cut
+-- what may enter a cut: a version that the face covers and that stands above the stamp at its key
 pub record FitToEnter (t : Table) (v : Version) : Type 0 where
   pub is-version : isVersion v ≡ true
   pub covered : Covers (faceOf t) (v .row)

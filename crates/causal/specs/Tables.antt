@@ -1,11 +1,11 @@
 -- Tables of versions by key, and what makes one causal.
-use mathlib.Core.Path.{_≡_}
-use mathlib.Core.Bool.{Bool, true}
+use mathlib.Core.Bool.{true}
 use mathlib.Core.List.{List}
+use mathlib.Core.Path.{_≡_}
 use Prim.Native.Nat.{ℕ}
 use lib.ListN.{getD}
-use Rattle.std.specs.declared.option.Option.{Option}
 use Rattle.std.specs.declared.option.Option.the-variants.{Some, None}
+use Rattle.std.specs.declared.option.Option.{Option}
 use Rattle.versions.specs.Rows.{rowOf, Covers}
 use Rattle.versions.specs.Versions.{isVersion}
 use Rattle.versions.specs.declared.row.Row.{Row}

@@ -1,7 +1,7 @@
 -- Worked facts about the definitions: one table, each field named by what it says.
-use mathlib.Core.Path.{_≡_}
 use mathlib.Core.Bool.{cond}
 use mathlib.Core.List.{[], _∷_}
+use mathlib.Core.Path.{_≡_}
 use Prim.Native.Nat.{ℕ}
 use lib.Dec.{eqb}
 use Rattle.std.specs.declared.option.Option.the-variants.{Some, None}
@@ -10,8 +10,8 @@ use Rattle.stamps.specs.declared.value.Value.{Value}
 use Rattle.versions.specs.Rows.{stamp, rowOf, zeros, Covers, joinedRows}
 use Rattle.versions.specs.declared.row.Row.{Row}
 use Rattle.versions.specs.declared.version.Version.{Version}
-use Rattle.causal.specs.Tables.{Table, Causal}
 use Rattle.causal.specs.Posting.{rowOfPost}
+use Rattle.causal.specs.Tables.{Table, Causal}
 
 -- the row with one stamp, at key 5
 abbrev pub rowAt5 : ℕ → Row

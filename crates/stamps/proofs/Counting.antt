@@ -4,9 +4,9 @@ use mathlib.Core.Logic.{_⊎_, inl, inr, ⊎-elim}
 use mathlib.Core.Path.{_≡_, refl, sym, ap, ap₂, _∙_}
 use Prim.Native.Nat.{ℕ, zero, suc, _+_, _≤_, _<_, max}
 use native.Mathlib.Omega.{arith}
+use Rattle.std.specs.Orderings.{Decides}
 use Rattle.std.proofs.shelf.Tests.{cases-eq, cases-lt, and-cases, both-ways}
 use Rattle.std.proofs.shelf.Ways.{decides-below-and}
-use Rattle.std.specs.Orderings.{Decides}
 use Rattle.stamps.specs.Keys.{everyBelow, countBelow, highestBelow}
 
 every-decides : (n : ℕ) (p : ℕ → Bool) → Decides (everyBelow n p) ((k : ℕ) → k < n → p k ≡ true)

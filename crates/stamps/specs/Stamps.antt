@@ -1,5 +1,4 @@
 -- Stamps. A stamp is one number: its counter times the factor, plus its terminal. 0 stands for none.
-use mathlib.Core.Path.{_≡_}
 use mathlib.Core.Bool.{Bool, _&&_, _||_}
 use Prim.Native.Nat.{ℕ, _+_, _*_, _/_, _%_, _≤_, _<_}
 use lib.Dec.{leb, ltb, eqb}

@@ -3,8 +3,8 @@ use mathlib.Core.Bool.{Bool, true}
 use Prim.Native.Nat.{ℕ}
 use lib.Dec.{leb}
 use Rattle.stamps.specs.Numbers.{amount-limit, card-limit}
-use Rattle.stamps.specs.declared.value.Value.{Value}
 use Rattle.stamps.specs.declared.value.Value.the-variants.{Amount, Free, Barred, Replaced}
+use Rattle.stamps.specs.declared.value.Value.{Value}
 
 -- an amount and a replacing card are in range up to their limits; the other values always are
 abbrev pub inRange : Value → Bool

@@ -49,7 +49,7 @@ impl Stamp {
             (λ p. InStampRange (p .counter) (p .terminal) × (self .number ≡ p .counter * factor + p .terminal)))
             (λ e. (e ≡ OutOfRange) × (isStamp (self .number) ≡ false) × (self .number ≡ 0 → ⊥)) ⌝ }
     {
-        if self.number == 0 {
+        if self.number == Stamp::NONE.number {
             return Ok(None);
         }
         if !self.is_stamp() {
@@ -80,6 +80,6 @@ impl Stamp {
     pub fn is_older(self, counter: u32) -> bool
         ensures { λ r. ⌜ r ≡ isOlder counter (self .number) ⌝ }
     {
-        self.number == 0 || self.is_stamp() && self.counter() < counter
+        self.number == Stamp::NONE.number || self.is_stamp() && self.counter() < counter
     }
 }

@@ -1,8 +1,8 @@
 -- Joining lists: what the laws give.
-use mathlib.Core.Path.{_≡_, refl, sym, ap, _∙_, subst}
 use mathlib.Core.List.{List, [], _∷_}
-use mathlib.Core.Logic.{_⊎_, inl, inr}
-use Rattle.versions.specs.Joins.{JoinLaws, joinedFrom, joined, In, AllProper, SameMembers, OrderAndRepeatsMakeNoDifference}
+use mathlib.Core.Logic.{inl, inr}
+use mathlib.Core.Path.{_≡_, refl, sym, ap, _∙_, subst}
+use Rattle.versions.specs.Joins.{JoinLaws, joinedFrom, joined, In, AllProper, OrderAndRepeatsMakeNoDifference}
 
 module _ {X : Type 0} {proper : X → Type 0} {neutral : X} {op : X → X → X} (laws : JoinLaws proper neutral op) where
   -- a value is below another when it alters nothing of it

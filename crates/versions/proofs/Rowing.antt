@@ -1,19 +1,18 @@
 -- The laws of rows: all that other proofs know of how a row is laid out.
-use mathlib.Core.Path.{_≡_, refl, sym, ap, _∙_}
-use mathlib.Core.List.{List, map}
-use Prim.Native.Nat.{ℕ, _^_, _≤_, _<_, max}
-use native.Mathlib.Omega.{arith}
-use native.Mathlib.Nat.{le-refl, le-of-eq, zero-add}
-use lib.ListN.{length, getD, take}
-use Rattle.std.specs.Iters.{counting}
-use Rattle.std.proofs.shelf.Counted.{getD-map-counting, length-map-counting, fill-by-all}
-use Rattle.std.proofs.shelf.Lists.{take-all, getD-past, getD-take, length-take}
-use Rattle.std.proofs.shelf.Tests.{cases-lt}
+use mathlib.Core.List.{List}
 use mathlib.Core.Logic.{⊎-elim}
-use Rattle.versions.specs.Joins.{JoinLaws}
+use mathlib.Core.Path.{_≡_, sym, ap, _∙_}
+use Prim.Native.Nat.{ℕ, _^_, _≤_, _<_, max}
+use native.Mathlib.Nat.{zero-add}
+use native.Mathlib.Omega.{arith}
+use lib.ListN.{length, getD, take}
+use Rattle.std.proofs.shelf.Counted.{getD-map-counting, length-map-counting, fill-by-all}
+use Rattle.std.proofs.shelf.Lists.{getD-past, getD-take, length-take}
+use Rattle.std.proofs.shelf.Tests.{cases-lt}
 use Rattle.stamps.specs.Numbers.{keys}
-use Rattle.versions.specs.Rows.{stamp, stampAt, rowOf, zeros, Covers, joinedStamps, joinedRows}
 use Rattle.stamps.specs.declared.stamp.Stamp.{Stamp}
+use Rattle.versions.specs.Joins.{JoinLaws}
+use Rattle.versions.specs.Rows.{stamp, stampAt, rowOf, zeros, Covers, joinedStamps, joinedRows}
 use Rattle.versions.specs.declared.row.Row.{Row}
 
 -- reading the array of a row

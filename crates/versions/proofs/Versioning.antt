@@ -1,22 +1,21 @@
 -- What a version is, part by part.
-use mathlib.Core.Path.{_≡_, ap, _∙_, sym}
-use mathlib.Core.Bool.{Bool, true, false}
+use mathlib.Core.Bool.{true}
 use mathlib.Core.Logic.{⊎-elim, _⊎_, inl, inr}
+use mathlib.Core.Path.{_≡_, ap}
 use Prim.Native.Nat.{ℕ, _≤_, _<_}
 use native.Mathlib.Omega.{arith}
 use lib.Dec.{eqb}
 use Rattle.std.proofs.shelf.Tests.{and-parts, and-from, ltb-true, lt-ltb, cases-lt, or-cases, eqb-true, eq-eqb, or-left, or-right}
 use Rattle.stamps.specs.Numbers.{keys}
-use Rattle.versions.specs.Rows.{stampAt}
-use Rattle.stamps.specs.Stamps.{counterOf, isStamp}
+use Rattle.stamps.specs.Stamps.{counterOf, isStamp, isOlder}
 use Rattle.stamps.specs.Values.{inRange}
+use Rattle.stamps.proofs.Counting.{every-at, every-from}
+use Rattle.stamps.proofs.Stamping.{counter-none}
+use Rattle.versions.specs.Rows.{stampAt}
 use Rattle.versions.specs.Versions.{rowOlder, isVersion}
-use Rattle.stamps.specs.Stamps.{isOlder}
 use Rattle.versions.specs.declared.row.Row.{Row}
 use Rattle.versions.specs.declared.version.Version.{Version}
-use Rattle.stamps.proofs.Counting.{every-at, every-from}
 use Rattle.versions.proofs.Rowing.{stamp-past}
-use Rattle.stamps.proofs.Stamping.{counter-none}
 
 -- the four facts of a version
 pub record Parts (v : Version) : Type 0 where

@@ -1,7 +1,7 @@
 -- Joining lists of what joins lawfully.
-use mathlib.Core.Path.{_≡_}
 use mathlib.Core.List.{List, [], _∷_}
 use mathlib.Core.Logic.{_⊎_}
+use mathlib.Core.Path.{_≡_}
 use Prim.Native.Nat.{_^_, _<_}
 use lib.ListN.{length}
 use Rattle.stamps.specs.Numbers.{keys}

@@ -4,9 +4,9 @@ use Prim.Native.Nat.{ℕ}
 use lib.Dec.{eqb, ltb}
 use Rattle.stamps.specs.Keys.{everyKey}
 use Rattle.stamps.specs.Numbers.{keys}
-use Rattle.versions.specs.Rows.{stampAt, rowOf}
 use Rattle.stamps.specs.Stamps.{counterOf, isStamp, isOlder}
 use Rattle.stamps.specs.Values.{inRange}
+use Rattle.versions.specs.Rows.{stampAt, rowOf}
 use Rattle.versions.specs.declared.row.Row.{Row}
 use Rattle.versions.specs.declared.version.Version.{Version}
 

@@ -41,10 +41,8 @@ pub impl Join for Stamp as StampJoin {
     }
 
     fn join(&self, other: &Stamp) -> Stamp {
-        if self.number < other.number {
-            *other
-        } else {
-            *self
+        Stamp {
+            number: self.number.max(other.number),
         }
     }
 }

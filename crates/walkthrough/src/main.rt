@@ -1,5 +1,8 @@
 // One job from start to finish: a lost card is barred, replaced and its balance moved at the office; at the
 // canteen the balance arrives first and is withheld until the bar behind it has come.
+ghost use mathlib.Core.Path.{_≡_};
+ghost use Rattle.std.specs.Vec.{made};
+ghost use Rattle.std.specs.declared.result.Result.the-variants.{Ok};
 use causal::answers::Answers;
 use causal::cut::Cut;
 use causal::draft::Draft;
@@ -128,7 +131,9 @@ fn tell(rt: &LibcRuntime, value: Value) -> Result<(), AnyError> {
 }
 
 // What a call answered, where it was not refused.
-fn accepted<T>(answer: Result<T, Refusal>) -> Result<T, AnyError> {
+fn accepted<T>(answer: Result<T, Refusal>) -> Result<T, AnyError>
+    ensures { λ r. ⌜ made r (λ value. answer ≡ Ok value) ⌝ }
+{
     match answer {
         Ok(value) => Ok(value),
         Err(_) => Err("a step was refused".into()),

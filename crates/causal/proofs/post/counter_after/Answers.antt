@@ -1,13 +1,13 @@
+use mathlib.Core.List.{List}
 use mathlib.Core.Path.{_≡_, refl, ap, _∙_}
 use Prim.Native.Nat.{ℕ, _+_}
 use borrow.Author.Needs.{needs}
 use native.Mathlib.Omega.{arith}
+use lib.ListN.{length}
+use Rattle.stamps.specs.Numbers.{keys}
 use Rattle.stamps.specs.Stamps.{counterOf}
 use Rattle.stamps.specs.declared.stamp.Stamp.{Stamp}
 use Rattle.stamps.proofs.Stamping.{counter-fits}
-use mathlib.Core.List.{List}
-use lib.ListN.{length}
-use Rattle.stamps.specs.Numbers.{keys}
 use Rattle.versions.specs.Joins.{joined}
 use Rattle.versions.specs.Rows.{stamp, joinedStamps}
 use Rattle.causal.specs.Posting.{counterAfter}

@@ -1,5 +1,5 @@
-use mathlib.Core.Path.{_≡_, refl}
 use mathlib.Core.Bool.{true}
+use mathlib.Core.Path.{_≡_, refl}
 use Rattle.versions.specs.Versions.{isVersion}
 use Rattle.causal.proofs.Tabling.{no-places, nothing-held}
 use Rattle.causal.proofs.answers.Answers.new.Needs as need

@@ -1,15 +1,14 @@
-use mathlib.Core.Path.{_≡_, sym, _∙_}
 use mathlib.Core.Bool.{Bool, true}
+use mathlib.Core.Path.{_≡_, sym, _∙_}
 use Prim.Native.Nat.{ℕ, _<_}
 use native.Mathlib.Omega.{arith}
-use Rattle.std.proofs.shelf.Lists.{length-set}
 use Rattle.std.specs.declared.option.Option.the-variants.{Some}
+use Rattle.std.proofs.shelf.Lists.{length-set}
 use Rattle.stamps.specs.Numbers.{keys}
 use Rattle.versions.specs.Versions.{isVersion}
 use Rattle.versions.specs.declared.version.Version.{Version}
 use Rattle.versions.proofs.Versioning.{parts-of-version}
 use Rattle.causal.specs.Holding.{answered}
-use Rattle.causal.specs.Tables.{tableOf}
 use Rattle.causal.proofs.Tabling.{place-set, held-with}
 use Rattle.causal.proofs.answers.Answers.note.Needs as need
 

@@ -1,32 +1,27 @@
-use mathlib.Core.Path.{_≡_, refl, sym, ap, subst, _∙_}
 use mathlib.Core.Bool.{Bool, true, false, _&&_}
-use mathlib.Core.List.{List}
 use mathlib.Core.Logic.{⊎-elim}
+use mathlib.Core.Path.{_≡_, refl, sym, ap, subst, _∙_}
 use Prim.Native.Nat.{ℕ, _+_, _*_, _≤_, _<_}
 use native.Mathlib.Omega.{arith}
 use lib.ListN.{length}
-use Rattle.std.proofs.shelf.Tests.{cases-bool, both-ways, cases-lt}
 use Rattle.std.specs.Options.{isSome}
-use Rattle.stamps.specs.Keys.{countKeys}
+use Rattle.std.specs.declared.result.Result.the-variants.{Ok}
+use Rattle.std.specs.declared.result.Result.{Result}
+use Rattle.std.proofs.shelf.Tests.{both-ways, cases-lt}
 use Rattle.stamps.specs.KeySets.{has}
 use Rattle.stamps.specs.Numbers.{keys, factor, counter-limit}
-use Rattle.versions.specs.Rows.{stamp, stampAt, Covers}
-use Rattle.stamps.specs.Stamps.{InStampRange, counterOf, stampOf, isStamp}
-use Rattle.stamps.specs.Values.{inRange}
-use Rattle.versions.specs.Versions.{isVersion, rowOlder}
-use Rattle.stamps.specs.Stamps.{isOlder}
-use Rattle.std.specs.declared.result.Result.{Result}
-use Rattle.std.specs.declared.result.Result.the-variants.{Ok}
+use Rattle.stamps.specs.Stamps.{InStampRange, counterOf, stampOf, isStamp, isOlder}
 use Rattle.stamps.specs.declared.refusal.Refusal.{Refusal}
-use Rattle.versions.specs.declared.row.Row.{Row}
 use Rattle.stamps.specs.declared.stamp.Stamp.{Stamp}
 use Rattle.stamps.specs.declared.value.Value.{Value}
-use Rattle.versions.specs.declared.version.Version.{Version}
 use Rattle.stamps.proofs.Counting.{every-fails, count-same}
 use Rattle.stamps.proofs.Stamping.{stamp-number, counter-of-stamp, counter-decides, stamp-from-parts}
+use Rattle.versions.specs.Rows.{stamp, stampAt, Covers}
+use Rattle.versions.specs.Versions.{rowOlder}
+use Rattle.versions.specs.declared.row.Row.{Row}
 use Rattle.versions.proofs.Versioning.{version-from-parts, older-counter, older-from, row-older-at}
 use Rattle.causal.specs.Holding.{holding}
-use Rattle.causal.specs.Posting.{nextCounter, causesOf, rowOfPost, postVersion, Drafted, cause-not-older, drafted, FitToEnter, InPostRange}
+use Rattle.causal.specs.Posting.{nextCounter, causesOf, rowOfPost, postVersion, cause-not-older, drafted, FitToEnter, InPostRange}
 use Rattle.causal.specs.Tables.{Table, heldStamp, faceOf}
 use Rattle.causal.specs.declared.cut.Cut.{Cut}
 use Rattle.causal.specs.declared.draft.Draft.{Draft}

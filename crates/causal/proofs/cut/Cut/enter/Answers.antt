@@ -1,11 +1,11 @@
-use mathlib.Core.Path.{_≡_, refl, sym, subst, _∙_}
 use mathlib.Core.Bool.{Bool, true}
-use Prim.Native.Nat.{ℕ, _<_, _≤_}
-use native.Mathlib.Omega.{arith}
+use mathlib.Core.Path.{_≡_, refl, sym, subst, _∙_}
+use Prim.Native.Nat.{_<_}
 use native.Mathlib.Nat.{le-refl}
-use lib.ListN.{length, getD, set}
-use Rattle.std.proofs.shelf.Lists.{length-set}
+use native.Mathlib.Omega.{arith}
+use lib.ListN.{getD}
 use Rattle.std.specs.declared.option.Option.the-variants.{Some}
+use Rattle.std.proofs.shelf.Lists.{length-set}
 use Rattle.stamps.specs.Numbers.{keys}
 use Rattle.versions.specs.Rows.{stamp, Covers}
 use Rattle.versions.specs.Versions.{isVersion}
@@ -14,7 +14,6 @@ use Rattle.versions.specs.declared.version.Version.{Version}
 use Rattle.versions.proofs.Versioning.{parts-of-version}
 use Rattle.causal.specs.Holding.{holding}
 use Rattle.causal.specs.Posting.{FitToEnter}
-use Rattle.causal.specs.Tables.{Table, tableOf, heldStamp, faceOf}
 use Rattle.causal.specs.declared.cut.Cut.{Cut}
 use Rattle.causal.proofs.Tabling.{place-set, held-with, with-rises, causal-with, face-read, face-set}
 use Rattle.causal.proofs.cut.Cut.enter.Needs as need

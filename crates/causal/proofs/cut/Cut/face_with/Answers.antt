@@ -1,17 +1,15 @@
 use mathlib.Core.Path.{_≡_, sym, ap, _∙_}
-use Prim.Native.Nat.{_<_}
 use borrow.Author.Count.{below-more}
 use native.Mathlib.Omega.{arith}
-use lib.ListN.{getD}
 use Rattle.std.proofs.shelf.Lists.{length-set, getD-set-same, getD-set-other}
 use Rattle.std.proofs.shelf.Tests.{cond-true, cond-false}
 use Rattle.stamps.specs.KeySets.{has}
-use Rattle.versions.specs.Rows.{stamp}
 use Rattle.stamps.specs.declared.stamp.Stamp.{Stamp}
+use Rattle.versions.specs.Rows.{stamp}
 use Rattle.versions.proofs.Rowing.{row-built}
-use Rattle.causal.specs.Tables.{heldStamp}
-use Rattle.causal.specs.Holding.{holding, answered}
 use Rattle.causal.specs.Choosing.{putIn}
+use Rattle.causal.specs.Holding.{holding, answered}
+use Rattle.causal.specs.Tables.{heldStamp}
 use Rattle.causal.proofs.Tabling.{face-read}
 use Rattle.causal.proofs.cut.Cut.face_with.Needs as need
 use Rattle.causal.proofs.cut.Cut.face_with.Needs.{then-contains, else-contains}

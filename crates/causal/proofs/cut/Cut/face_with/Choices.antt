@@ -3,9 +3,9 @@ use Prim.Native.Nat.{ℕ, _<_}
 use lib.ListN.{length, getD}
 use Rattle.stamps.specs.KeySets.{has}
 use Rattle.versions.specs.Rows.{stamp}
-use Rattle.causal.specs.Tables.{heldStamp}
-use Rattle.causal.specs.Holding.{holding, answered}
 use Rattle.causal.specs.Choosing.{putIn}
+use Rattle.causal.specs.Holding.{holding, answered}
+use Rattle.causal.specs.Tables.{heldStamp}
 use Rattle.causal.proofs.cut.Cut.face_with.Given as given
 
 abbrev pub Inv-loop-k : given.InvT-loop-k

@@ -1,9 +1,7 @@
-use mathlib.Core.Path.{_≡_, sym, ap, _∙_}
-use mathlib.Core.Bool.{Bool, not, _&&_}
+use mathlib.Core.Bool.{not}
+use mathlib.Core.Path.{sym, _∙_, refl}
 use lib.Dec.{eqb}
-use native.Mathlib.Omega.{arith}
 use Rattle.std.proofs.shelf.Tests.{and-parts, eq-eqb, not-from-true, and-left}
-use mathlib.Core.Path.{refl}
 use Rattle.stamps.specs.KeySets.{has}
 use Rattle.stamps.specs.Numbers.{keys}
 use Rattle.stamps.proofs.Counting.{count-less}

@@ -1,5 +1,5 @@
-use Rattle.stamps.specs.Keys.{countKeys}
 use Rattle.stamps.specs.KeySets.{has}
+use Rattle.stamps.specs.Keys.{countKeys}
 use Rattle.causal.specs.Holding.{holding, answered}
 use Rattle.causal.proofs.Fitting.{AllNewer, HasContained}
 use Rattle.causal.proofs.cut.Cut.fitting_keys.Given as given

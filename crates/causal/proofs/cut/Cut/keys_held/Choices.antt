@@ -1,5 +1,5 @@
-use mathlib.Core.Path.{_≡_}
 use mathlib.Core.Bool.{false}
+use mathlib.Core.Path.{_≡_}
 use Prim.Native.Nat.{ℕ, _<_, _≤_}
 use Rattle.std.specs.Options.{isSome}
 use Rattle.stamps.specs.KeySets.{has}

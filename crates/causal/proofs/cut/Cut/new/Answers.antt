@@ -1,10 +1,10 @@
-use mathlib.Core.Path.{_≡_, refl, sym, ap, _∙_}
 use mathlib.Core.Bool.{true}
+use mathlib.Core.Path.{_≡_, refl, sym, ap, _∙_}
+use lib.ListN.{replicate}
+use Rattle.std.specs.declared.option.Option.the-variants.{None}
 use Rattle.versions.specs.Rows.{Covers}
 use Rattle.versions.specs.Versions.{isVersion}
 use Rattle.versions.proofs.Rowing.{row-same}
-use lib.ListN.{replicate}
-use Rattle.std.specs.declared.option.Option.the-variants.{None}
 use Rattle.causal.specs.Tables.{tableOf, heldStamp, faceOf}
 use Rattle.causal.proofs.Tabling.{no-places, nothing-held}
 use Rattle.causal.proofs.cut.Cut.new.Needs as need

@@ -1,15 +1,15 @@
-use mathlib.Core.Path.{_≡_, sym, ap₂, _∙_}
 use mathlib.Core.Logic.{⊎-elim}
+use mathlib.Core.Path.{_≡_, sym, ap₂, _∙_}
 use borrow.Author.Needs.{needs}
+use native.Mathlib.Omega.{arith}
 use lib.Dec.{ltb}
 use lib.ListN.{getD}
 use Rattle.std.specs.declared.option.Option.{Option}
-use Rattle.versions.specs.declared.version.Version.{Version}
-use native.Mathlib.Omega.{arith}
 use Rattle.std.proofs.shelf.Tests.{cases-lt}
 use Rattle.versions.specs.Rows.{stamp}
-use Rattle.causal.specs.Tables.{heldStamp}
+use Rattle.versions.specs.declared.version.Version.{Version}
 use Rattle.causal.specs.Holding.{holding}
+use Rattle.causal.specs.Tables.{heldStamp}
 use Rattle.causal.proofs.Tabling.{face-read, past-places}
 use Rattle.causal.proofs.cut.Cut.newer_keys.Needs as need
 

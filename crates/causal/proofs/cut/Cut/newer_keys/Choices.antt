@@ -1,9 +1,9 @@
-use mathlib.Core.Path.{_≡_}
 use mathlib.Core.Bool.{false}
+use mathlib.Core.Path.{_≡_}
 use Prim.Native.Nat.{ℕ, _<_, _≤_}
 use Rattle.stamps.specs.KeySets.{has}
-use Rattle.causal.specs.Holding.{holding, answered}
 use Rattle.causal.specs.Choosing.{isNewer}
+use Rattle.causal.specs.Holding.{holding, answered}
 use Rattle.causal.proofs.cut.Cut.newer_keys.Given as given
 
 abbrev pub Inv-loop-k : given.InvT-loop-k

@@ -1,13 +1,13 @@
-use mathlib.Core.Path.{_≡_, refl, sym, ap, _∙_}
 use mathlib.Core.Bool.{Bool, true, false, cond}
-use mathlib.Core.Logic.{⊎-elim}
 use mathlib.Core.List.{List}
-use Prim.Native.Nat.{ℕ, _<_, _≤_}
+use mathlib.Core.Logic.{⊎-elim}
+use mathlib.Core.Path.{_≡_, sym, ap, _∙_}
+use Prim.Native.Nat.{ℕ, _<_}
 use native.Mathlib.Omega.{arith}
 use lib.ListN.{length, getD}
-use Rattle.std.proofs.shelf.Tests.{cases-lt, cond-false}
-use Rattle.std.specs.declared.option.Option.{Option}
 use Rattle.std.specs.declared.option.Option.the-variants.{None}
+use Rattle.std.specs.declared.option.Option.{Option}
+use Rattle.std.proofs.shelf.Tests.{cases-lt}
 use Rattle.stamps.specs.KeySets.{has}
 use Rattle.stamps.specs.Numbers.{keys}
 use Rattle.versions.specs.Versions.{isVersion}
@@ -15,7 +15,7 @@ use Rattle.versions.specs.declared.version.Version.{Version}
 use Rattle.versions.proofs.Rowing.{row-same}
 use Rattle.causal.specs.Choosing.{putIn}
 use Rattle.causal.specs.Holding.{holding, answered}
-use Rattle.causal.specs.Tables.{tableOf, heldStamp}
+use Rattle.causal.specs.Tables.{tableOf, heldStamp, faceOf}
 use Rattle.causal.specs.declared.answers.Answers.{Answers}
 use Rattle.causal.specs.declared.cut.Cut.{Cut}
 use Rattle.causal.proofs.Fitting.{put-each}
@@ -41,14 +41,16 @@ ghost-self c =
     let cut = c .args .self .now in
     let answers = c .args .answers .now in
     let chosen = has (c .args .chosen) in
-    let after = left cut answers chosen (c .loop-k .held) (c .loop-k .inv .0) (λ k h. c .loop-k .inv .1 k (omega arith)) in (
+    let after = left cut answers chosen (c .loop-k .held) (c .loop-k .inv .0) (λ k h. c .loop-k .inv .1 k (omega arith)) in
+    let faces : faceOf (putIn (holding cut) (answered answers) chosen) ≡ faceOf (tableOf (c .loop-k .held)) =
+    row-same (λ k. heldStamp (putIn (holding cut) (answered answers) chosen k)) (λ k. heldStamp (tableOf (c .loop-k .held) k)) (λ k h. ap heldStamp (sym (after k))) in (
       c .loop-k .inv .0,
       (
         (λ k v e. put-each (holding cut) (answered answers) (λ j w. isVersion w ≡ true) chosen (cut .versions) (answers .versions) k v (sym (after k) ∙ e)),
         (
           (λ k v e. put-each (holding cut) (answered answers) (λ j w. w .key ≡ j) chosen (cut .keyed) (answers .keyed) k v (sym (after k) ∙ e)),
           (
-            c .face-with-face .ensures ∙ row-same _ _ (λ k h. ap heldStamp (sym (after k))),
+            c .face-with-face .ensures ∙ faces,
             (causal-same (putIn (holding cut) (answered answers) chosen) (tableOf (c .loop-k .held)) after (c .pre .causal), tt),
           ),
         ),

@@ -3,8 +3,8 @@ use Prim.Native.Nat.{ℕ, _<_, _≤_}
 use lib.ListN.{length, getD}
 use Rattle.std.specs.declared.option.Option.the-variants.{None}
 use Rattle.stamps.specs.KeySets.{has}
-use Rattle.causal.specs.Holding.{holding, answered}
 use Rattle.causal.specs.Choosing.{putIn}
+use Rattle.causal.specs.Holding.{holding, answered}
 use Rattle.causal.proofs.cut.Cut.put_in.Given as given
 
 abbrev pub Inv-loop-k : given.InvT-loop-k

@@ -1,21 +1,21 @@
-use mathlib.Core.Path.{_≡_, refl, sym, ap, _∙_}
-use mathlib.Core.Bool.{Bool, true, false, not, _&&_}
+use mathlib.Core.Bool.{Bool, false, not, _&&_}
 use mathlib.Core.List.{map}
 use mathlib.Core.Logic.{⊎-elim}
+use mathlib.Core.Path.{_≡_, refl, sym, ap, _∙_}
 use Prim.Native.Nat.{ℕ, suc, _≤_, _<_, zero-le}
 use native.Mathlib.Omega.{arith}
 use lib.Dec.{eqb, leb}
-use Rattle.std.proofs.shelf.Tests.{and-parts, and-left, and-right, and-from, eq-eqb, ne-eqb, not-from-true, not-from-false, le-leb, lt-leb, leb-true, cases-order, cases-lt}
 use Rattle.std.specs.Vec.{listOf}
 use Rattle.std.specs.declared.option.Option.{Option}
-use Rattle.versions.specs.Joins.{joinedFrom}
+use Rattle.std.proofs.shelf.Tests.{and-parts, and-left, and-right, eq-eqb, ne-eqb, not-from-true, not-from-false, le-leb, lt-leb, leb-true, cases-order}
 use Rattle.stamps.specs.KeySets.{has}
 use Rattle.stamps.specs.Numbers.{keys}
+use Rattle.stamps.proofs.Counting.{count-less}
+use Rattle.versions.specs.Joins.{joinedFrom}
 use Rattle.versions.specs.Rows.{joinedRows}
 use Rattle.versions.specs.Versions.{reach}
 use Rattle.versions.specs.declared.row.Row.{Row}
 use Rattle.versions.specs.declared.version.Version.{Version}
-use Rattle.stamps.proofs.Counting.{count-less}
 use Rattle.causal.specs.Holding.{holding}
 use Rattle.causal.specs.Posting.{causesBelow, rowOfPost}
 use Rattle.causal.proofs.Drafting.{causes-skip, row-more}

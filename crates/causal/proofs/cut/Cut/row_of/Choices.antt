@@ -1,9 +1,9 @@
-use mathlib.Core.Path.{_≡_}
 use mathlib.Core.Bool.{_&&_}
+use mathlib.Core.Path.{_≡_}
 use Prim.Native.Nat.{ℕ, _≤_}
 use lib.Dec.{leb}
-use Rattle.stamps.specs.Keys.{countKeys}
 use Rattle.stamps.specs.KeySets.{has}
+use Rattle.stamps.specs.Keys.{countKeys}
 use Rattle.stamps.specs.Numbers.{keys}
 use Rattle.causal.specs.Holding.{holding}
 use Rattle.causal.specs.Posting.{causesBelow, rowOfPost}

@@ -1,9 +1,9 @@
-use borrow.Author.Needs.{needs}
 use mathlib.Core.Path.{refl, sym, _∙_}
+use borrow.Author.Needs.{needs}
 use Rattle.std.proofs.shelf.Tests.{le-ltb, both-ways}
+use Rattle.stamps.specs.KeySets.{has}
 use Rattle.stamps.proofs.BitSets.{bit-above}
 use Rattle.stamps.proofs.keyset.KeySet.contains.Needs as need
-use Rattle.stamps.specs.KeySets.{has}
 
 pub returns-then-key-lt-KEYS : need.returns-then-key-lt-KEYS
 unfolding has

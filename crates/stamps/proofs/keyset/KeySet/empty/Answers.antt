@@ -1,7 +1,7 @@
 use native.Mathlib.Omega.{arith}
+use Rattle.stamps.specs.KeySets.{has}
 use Rattle.stamps.proofs.BitSets.{bit-above}
 use Rattle.stamps.proofs.keyset.KeySet.empty.Needs as need
-use Rattle.stamps.specs.KeySets.{has}
 
 pub returns : need.returns
 unfolding has

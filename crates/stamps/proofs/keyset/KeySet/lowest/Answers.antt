@@ -1,8 +1,8 @@
 use borrow.Author.Needs.{needs}
 use native.Mathlib.Omega.{arith}
+use Rattle.stamps.specs.KeySets.{has}
 use Rattle.stamps.proofs.BitSets.{bit-above, trailing-lowest}
 use Rattle.stamps.proofs.keyset.KeySet.lowest.Needs as need
-use Rattle.stamps.specs.KeySets.{has}
 
 pub returns-then-self-eq0 : need.returns-then-self-eq0
 unfolding has

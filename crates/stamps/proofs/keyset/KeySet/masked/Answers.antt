@@ -1,6 +1,6 @@
+use Rattle.stamps.specs.KeySets.{has}
 use Rattle.stamps.proofs.BitSets.{bit-and}
 use Rattle.stamps.proofs.keyset.KeySet.masked.Needs as need
-use Rattle.stamps.specs.KeySets.{has}
 
 pub returns : need.returns
 unfolding has

@@ -2,9 +2,9 @@ use mathlib.Core.Bool.{Bool, _||_}
 use mathlib.Core.Path.{ap, _∙_}
 use Prim.Native.Nat.{ℕ, _*_, _%_, _^_}
 use Rattle.std.proofs.shelf.Bits.{or-comm}
+use Rattle.stamps.specs.KeySets.{has}
 use Rattle.stamps.proofs.BitSets.{bit, bit-or, bit-shl}
 use Rattle.stamps.proofs.keyset.KeySet.with.Needs as need
-use Rattle.stamps.specs.KeySets.{has}
 
 pub returns : need.returns
 unfolding has

@@ -1,11 +1,11 @@
 use mathlib.Core.Bool.{Bool, true, false, not, _&&_, xor}
 use mathlib.Core.Path.{_≡_, refl, ap, _∙_}
-use Prim.Native.Nat.{ℕ, _*_, _%_, _^_}
+use Prim.Native.Nat.{_*_, _%_, _^_}
 use lib.Dec.{eqb}
 use Rattle.std.proofs.shelf.Tests.{eqb-true, false≢true}
+use Rattle.stamps.specs.KeySets.{has}
 use Rattle.stamps.proofs.BitSets.{bit, bit-xor, bit-shl}
 use Rattle.stamps.proofs.keyset.KeySet.without.Needs as need
-use Rattle.stamps.specs.KeySets.{has}
 
 -- where b implies a, the exclusive or strikes b out of a
 strikes : (a b : Bool) → (b ≡ true → a ≡ true) → xor a b ≡ (not b && a)

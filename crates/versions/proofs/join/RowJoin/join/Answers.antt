@@ -1,4 +1,3 @@
-use mathlib.Core.Path.{_∙_, sym, ap₂}
 use Prim.Native.Nat.{max}
 use native.Mathlib.Omega.{arith}
 use Rattle.versions.specs.Rows.{stampAt}

@@ -1,6 +1,4 @@
 use native.Mathlib.Omega.{arith}
-use Prim.Native.Nat.{_≤_}
-use Rattle.versions.specs.Rows.{stampAt}
 use Rattle.versions.proofs.Rowing.{stamp-read, covers-by-keys}
 use Rattle.versions.proofs.row.Row.covers.Needs as need
 

@@ -1,6 +1,5 @@
-use mathlib.Core.Path.{_≡_}
 use Prim.Native.Nat.{ℕ, _<_, _≤_}
-use lib.ListN.{length, getD}
+use lib.ListN.{getD}
 use Rattle.std.specs.Orderings.{Decides}
 use Rattle.versions.specs.Rows.{stamp}
 use Rattle.versions.proofs.row.Row.covers.Given as given

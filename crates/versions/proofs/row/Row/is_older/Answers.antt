@@ -1,11 +1,10 @@
-use mathlib.Core.Path.{_≡_, sym, ap, _∙_}
-use mathlib.Core.Bool.{true, false}
+use mathlib.Core.Logic.{⊎-elim}
+use mathlib.Core.Path.{sym, ap, _∙_}
 use borrow.Author.Count.{below-more}
 use native.Mathlib.Omega.{arith}
 use Rattle.std.proofs.shelf.Tests.{cases-bool, both-ways}
-use mathlib.Core.Logic.{⊎-elim}
-use Rattle.versions.specs.Versions.{rowOlder}
 use Rattle.stamps.specs.Stamps.{isOlder}
+use Rattle.versions.specs.Versions.{rowOlder}
 use Rattle.versions.proofs.Rowing.{stamp-read}
 use Rattle.versions.proofs.Versioning.{row-older-at, row-older-from}
 use Rattle.versions.proofs.row.Row.is_older.Needs as need

@@ -1,9 +1,9 @@
-use mathlib.Core.Path.{_≡_}
 use mathlib.Core.Bool.{true}
+use mathlib.Core.Path.{_≡_}
 use Prim.Native.Nat.{ℕ, _<_}
 use lib.ListN.{getD}
-use Rattle.versions.specs.Rows.{stamp}
 use Rattle.stamps.specs.Stamps.{isOlder}
+use Rattle.versions.specs.Rows.{stamp}
 use Rattle.versions.proofs.row.Row.is_older.Given as given
 
 abbrev pub Inv-loop-k : given.InvT-loop-k

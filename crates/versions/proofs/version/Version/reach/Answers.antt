@@ -1,15 +1,13 @@
-use mathlib.Core.Path.{_≡_, refl, sym, ap, _∙_}
 use mathlib.Core.Bool.{Bool, true, false, cond}
-use Prim.Native.Nat.{ℕ, _<_}
+use mathlib.Core.Path.{_≡_, refl, sym, ap, _∙_}
 use borrow.Author.Count.{below-more}
 use native.Mathlib.Omega.{arith}
 use lib.Dec.{eqb}
-use lib.ListN.{length, getD}
-use mathlib.Core.Logic.{_≢_}
+use lib.ListN.{getD}
 use Rattle.std.proofs.shelf.Lists.{length-set, getD-set-same, getD-set-other}
 use Rattle.std.proofs.shelf.Tests.{eq-eqb, ne-eqb, cond-true, cond-false}
-use Rattle.versions.specs.Rows.{stamp, stampAt}
 use Rattle.stamps.specs.declared.stamp.Stamp.{Stamp}
+use Rattle.versions.specs.Rows.{stamp, stampAt}
 use Rattle.versions.proofs.Rowing.{row-built, stamp-read}
 use Rattle.versions.proofs.version.Version.reach.Needs as need
 use Rattle.versions.proofs.version.Version.reach.Needs.{then-k-self, else-k-self}
