@@ -1,11 +1,12 @@
 -- What is said of all numbers below n at once, and what it says of each.
-use mathlib.Core.Bool.{Bool, true, false, cond}
+use mathlib.Core.Bool.{Bool, true, false, cond, not, _&&_}
 use mathlib.Core.Logic.{_⊎_, inl, inr, ⊎-elim}
 use mathlib.Core.Path.{_≡_, refl, sym, ap, ap₂, _∙_}
 use Prim.Native.Nat.{ℕ, zero, suc, _+_, _≤_, _<_, max}
 use native.Mathlib.Omega.{arith}
+use lib.Dec.{eqb}
 use Rattle.std.specs.Orderings.{Decides}
-use Rattle.std.proofs.shelf.Tests.{cases-eq, cases-lt, and-cases, both-ways}
+use Rattle.std.proofs.shelf.Tests.{cases-eq, cases-lt, and-cases, and-left, and-parts, both-ways, eq-eqb, not-from-true}
 use Rattle.std.proofs.shelf.Ways.{decides-below-and}
 use Rattle.stamps.specs.Keys.{everyBelow, countBelow, highestBelow}
 
@@ -61,6 +62,13 @@ count-less (suc n) p q h j l off on =
       | inl e ↦ omega (arith, ap one (ap p (sym e) ∙ off), ap one (ap q (sym e) ∙ on), count-le n p q rest)
       | inr ne ↦ omega (arith, one-le (p n) (q n) (h n (omega arith)), count-less n p q rest j (omega arith) off on)
     ]
+
+-- striking out a number that passes lowers the count
+pub count-struck : (n : ℕ) (all less : ℕ → Bool) (key : ℕ) → ((k : ℕ) → less k ≡ (not (eqb k key) && all k)) → key < n → all key ≡ true
+    → countBelow n less < countBelow n all
+count-struck n all less key strikes within there =
+    count-less n less all (λ k l t. and-parts (not (eqb k key)) (all k) (sym (strikes k) ∙ t) .1) key within
+    (strikes key ∙ and-left (not (eqb key key)) (all key) (not-from-true (eqb key key) (eq-eqb key key refl))) there
 
 -- where a test passes, one of two others does, and nowhere else: their counts add up to its count
 pub count-split : (n : ℕ) (p q r : ℕ → Bool) → ((k : ℕ) → k < n → cond (p k) 1 0 ≡ cond (q k) 1 0 + cond (r k) 1 0)

@@ -1,7 +1,7 @@
 -- What a version is, part by part.
-use mathlib.Core.Bool.{true}
+use mathlib.Core.Bool.{Bool, true}
 use mathlib.Core.Logic.{⊎-elim, _⊎_, inl, inr}
-use mathlib.Core.Path.{_≡_, ap}
+use mathlib.Core.Path.{_≡_, ap, sym, _∙_}
 use Prim.Native.Nat.{ℕ, _≤_, _<_}
 use native.Mathlib.Omega.{arith}
 use lib.Dec.{eqb}
@@ -31,6 +31,10 @@ parts-of-version v h =
     let b = and-parts _ _ (a .1) in
     let d = and-parts _ _ (b .1) in
     record { keyed = ltb-true (v .key) keys (a .0); valued = b .0; stamped = d .0; older = d .1 }
+
+-- where the test says so, the key is in range
+pub key-within : (v : Version) (r : Bool) → r ≡ isVersion v → r ≡ true → v .key < keys
+key-within v r tells t = parts-of-version v (sym tells ∙ t) .keyed
 
 pub version-from-parts : (v : Version) → Parts v → isVersion v ≡ true
 unfolding isVersion

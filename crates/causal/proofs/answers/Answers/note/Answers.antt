@@ -7,13 +7,13 @@ use Rattle.std.proofs.shelf.Lists.{length-set}
 use Rattle.stamps.specs.Numbers.{keys}
 use Rattle.versions.specs.Versions.{isVersion}
 use Rattle.versions.specs.declared.version.Version.{Version}
-use Rattle.versions.proofs.Versioning.{parts-of-version}
+use Rattle.versions.proofs.Versioning.{key-within}
 use Rattle.causal.specs.Holding.{answered}
 use Rattle.causal.proofs.Tabling.{place-set, held-with}
 use Rattle.causal.proofs.answers.Answers.note.Needs as need
 
 within : (v : Version) (key : ℕ) (r : Bool) → r ≡ isVersion v → r ≡ true → v .key ≡ key → key < keys
-within v key r tells t e = omega (arith, parts-of-version v (sym tells ∙ t) .keyed)
+within v key r tells t e = omega (arith, key-within v r tells t)
 
 pub index-self-key : need.index-self-key
 index-self-key c = within (c .args .version .now) (c .args .key) (c .is-version .result) (c .is-version .ensures) (c .if-not-is-version .left) (c .if-version-key .left)

@@ -1,4 +1,4 @@
-use mathlib.Core.Bool.{Bool, true}
+use mathlib.Core.Bool.{true}
 use mathlib.Core.Path.{_≡_, refl, sym, subst, _∙_}
 use Prim.Native.Nat.{_<_}
 use native.Mathlib.Nat.{le-refl}
@@ -6,20 +6,16 @@ use native.Mathlib.Omega.{arith}
 use lib.ListN.{getD}
 use Rattle.std.specs.declared.option.Option.the-variants.{Some}
 use Rattle.std.proofs.shelf.Lists.{length-set}
-use Rattle.stamps.specs.Numbers.{keys}
 use Rattle.versions.specs.Rows.{stamp, Covers}
 use Rattle.versions.specs.Versions.{isVersion}
 use Rattle.versions.specs.declared.row.Row.{Row}
 use Rattle.versions.specs.declared.version.Version.{Version}
-use Rattle.versions.proofs.Versioning.{parts-of-version}
+use Rattle.versions.proofs.Versioning.{parts-of-version, key-within}
 use Rattle.causal.specs.Holding.{holding}
 use Rattle.causal.specs.Posting.{FitToEnter}
 use Rattle.causal.specs.declared.cut.Cut.{Cut}
 use Rattle.causal.proofs.Tabling.{place-set, held-with, with-rises, causal-with, face-read, face-set}
 use Rattle.causal.proofs.cut.Cut.enter.Needs as need
-
-within : (v : Version) (r : Bool) → r ≡ isVersion v → r ≡ true → v .key < keys
-within v r tells t = parts-of-version v (sym tells ∙ t) .keyed
 
 -- the three tests, read of the table
 fit : (cut : Cut) (v : Version) → isVersion v ≡ true → Covers (cut .face) (v .row) → getD (cut .face .stamps) (v .key) (stamp 0) .number < v .stamp .number → FitToEnter (holding cut) v
@@ -31,19 +27,19 @@ fit cut v is covers above =
     }
 
 pub index-self-key : need.index-self-key
-index-self-key c = within (c .args .version .now) (c .is-version .result) (c .is-version .ensures) (c .if-not-is-version .left)
+index-self-key c = key-within (c .args .version .now) (c .is-version .result) (c .is-version .ensures) (c .if-not-is-version .left)
 
 pub index-self-key-2 : need.index-self-key-2
-index-self-key-2 c = within (c .args .version .now) (c .is-version .result) (c .is-version .ensures) (c .if-not-is-version .left)
+index-self-key-2 c = key-within (c .args .version .now) (c .is-version .result) (c .is-version .ensures) (c .if-not-is-version .left)
 
 pub index-self-key-3 : need.index-self-key-3
-index-self-key-3 c = within (c .args .version .now) (c .is-version .result) (c .is-version .ensures) (c .if-not-is-version .left)
+index-self-key-3 c = key-within (c .args .version .now) (c .is-version .result) (c .is-version .ensures) (c .if-not-is-version .left)
 
 pub returns-then-version-self : need.returns-then-version-self
 returns-then-version-self c =
     let cut = c .args .self .now in
     let v = c .args .version .now in
-    let h = within v (c .is-version .result) (c .is-version .ensures) (c .if-not-is-version .left) in
+    let h = key-within v (c .is-version .result) (c .is-version .ensures) (c .if-not-is-version .left) in
     record {
       entered = (
         refl,

@@ -1,22 +1,13 @@
-use mathlib.Core.Bool.{not}
-use mathlib.Core.Path.{sym, _∙_, refl}
-use lib.Dec.{eqb}
-use Rattle.std.proofs.shelf.Tests.{and-parts, eq-eqb, not-from-true, and-left}
 use Rattle.stamps.specs.KeySets.{has}
 use Rattle.stamps.specs.Numbers.{keys}
-use Rattle.stamps.proofs.Counting.{count-less}
+use Rattle.stamps.proofs.Counting.{count-struck}
 use Rattle.causal.specs.Holding.{holding, answered}
 use Rattle.causal.proofs.Fitting.{strike-newer, strike-contained, fits-from}
 use Rattle.causal.proofs.cut.Cut.fitting_keys.Needs as need
 
 pub loop-k-less : need.loop-k-less
 loop-k-less c =
-    let key = c .in-Some .k in
-    let all = has (c .loop-k .fitting) in
-    let less = has (c .remove .last .self) in
-    let strikes = c .remove .ensures .1 in
-    count-less keys less all (λ k l t. and-parts (not (eqb k key)) (all k) (sym (strikes k) ∙ t) .1) key (c .in-Some .ensures tt .0)
-    (strikes key ∙ and-left (not (eqb key key)) (all key) (not-from-true (eqb key key) (eq-eqb key key refl))) (c .in-Some .ensures tt .1)
+    count-struck keys (has (c .loop-k .fitting)) (has (c .remove .last .self)) (c .in-Some .k) (c .remove .ensures .1) (c .in-Some .ensures tt .0) (c .in-Some .ensures tt .1)
 
 pub loop-k-again : need.loop-k-again
 loop-k-again c =

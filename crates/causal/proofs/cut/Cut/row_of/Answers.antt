@@ -1,7 +1,7 @@
 use mathlib.Core.Bool.{Bool, false, not, _&&_}
 use mathlib.Core.List.{map}
 use mathlib.Core.Logic.{⊎-elim}
-use mathlib.Core.Path.{_≡_, refl, sym, ap, _∙_}
+use mathlib.Core.Path.{_≡_, sym, ap, _∙_}
 use Prim.Native.Nat.{ℕ, suc, _≤_, _<_, zero-le}
 use native.Mathlib.Omega.{arith}
 use lib.Dec.{eqb, leb}
@@ -10,7 +10,7 @@ use Rattle.std.specs.declared.option.Option.{Option}
 use Rattle.std.proofs.shelf.Tests.{and-parts, and-left, and-right, eq-eqb, ne-eqb, not-from-true, not-from-false, le-leb, lt-leb, leb-true, cases-order}
 use Rattle.stamps.specs.KeySets.{has}
 use Rattle.stamps.specs.Numbers.{keys}
-use Rattle.stamps.proofs.Counting.{count-less}
+use Rattle.stamps.proofs.Counting.{count-struck}
 use Rattle.versions.specs.Joins.{joinedFrom}
 use Rattle.versions.specs.Rows.{joinedRows}
 use Rattle.versions.specs.Versions.{reach}
@@ -70,11 +70,7 @@ loop-k-again c =
 
 pub loop-k-less : need.loop-k-less
 loop-k-less c =
-    let key = c .in-Some .k in
-    let all = has (c .loop-k .left) in
-    let strikes = c .remove .ensures .1 in
-    count-less keys (has (c .remove .last .self)) all (λ k l t. and-parts (not (eqb k key)) (all k) (sym (strikes k) ∙ t) .1) key (c .in-Some .ensures tt .0)
-    (strikes key ∙ and-left (not (eqb key key)) (all key) (not-from-true (eqb key key) (eq-eqb key key refl))) (c .in-Some .ensures tt .1)
+    count-struck keys (has (c .loop-k .left)) (has (c .remove .last .self)) (c .in-Some .k) (c .remove .ensures .1) (c .in-Some .ensures tt .0) (c .in-Some .ensures tt .1)
 
 pub returns : need.returns
 returns c =
