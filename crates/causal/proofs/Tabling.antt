@@ -18,7 +18,7 @@ use Rattle.versions.specs.Rows.{stamp, stampAt, Covers}
 use Rattle.versions.specs.declared.row.Row.{Row}
 use Rattle.versions.specs.declared.version.Version.{Version}
 use Rattle.versions.proofs.Rowing.{stamp-read, stamp-at-row, row-built, row-length, covers-by-keys, covers-trans}
-use Rattle.causal.specs.Tables.{Table, tableOf, heldStamp, faceOf, CoversHeld, Causal}
+use Rattle.causal.specs.Tables.{Table, tableOf, heldStamp, faceOf, CoversHeld, Causal, withVersion, NoStampFalls}
 
 pub none-some : (v : Version) → _≡_ {A = Option Version} None (Some v) → ⊥
 none-some v e = let z : _≡_ {A = ℕ} 0 1 = cc in omega arith
@@ -50,10 +50,6 @@ place-set xs i x within k = ⊎-elim here there (cases-eq k i)
     there : k ≢ i → tableOf (set xs i x) k ≡ cond (eqb k i) x (tableOf xs k)
     there ne = getD-set-other xs i k x None ne ∙ sym (cond-false (eqb k i) x (tableOf xs k) (ne-eqb k i ne))
 
--- the table with a version put in at a key
-abbrev pub withVersion : Table → ℕ → Version → Table
-withVersion t i v k = cond (eqb k i) (Some v) (t k)
-
 -- what holds of the version put in and of all others holds of the whole
 pub held-with : (P : ℕ → Version → Type 0) (t new : Table) (i : ℕ) (v : Version) → ((k : ℕ) → new k ≡ withVersion t i v k)
     → P i v → ((k : ℕ) (w : Version) → t k ≡ Some w → P k w) → (k : ℕ) (w : Version) → new k ≡ Some w → P k w
@@ -72,11 +68,11 @@ pub stamp-at-face : (t : Table) (k : ℕ) → k < keys → stampAt (faceOf t) k 
 stamp-at-face t k h = stamp-at-row (λ j. heldStamp (t j)) k h
 
 -- where no stamp falls, the new face covers the old one
-pub face-rises : (t new : Table) → ((k : ℕ) → heldStamp (t k) ≤ heldStamp (new k)) → Covers (faceOf new) (faceOf t)
+pub face-rises : (t new : Table) → NoStampFalls t new → Covers (faceOf new) (faceOf t)
 face-rises t new up = covers-by-keys (faceOf new) (faceOf t) (λ k h. omega (arith, up k, stamp-at-face t k h, stamp-at-face new k h))
 
 -- and covers what the old one covered
-pub held-rises : (t new : Table) → ((k : ℕ) → heldStamp (t k) ≤ heldStamp (new k)) → (o : Option Version) → CoversHeld (faceOf t) o → CoversHeld (faceOf new) o
+pub held-rises : (t new : Table) → NoStampFalls t new → (o : Option Version) → CoversHeld (faceOf t) o → CoversHeld (faceOf new) o
 held-rises t new up o old v e = covers-trans (faceOf new) (faceOf t) (v .row) (face-rises t new up) (old v e)
 
 -- tables that agree at each key are causal together
@@ -87,7 +83,7 @@ causal-same t new same causal k =
 
 -- a higher version put in leaves no stamp fallen
 pub with-rises : (t new : Table) (i : ℕ) (v : Version) → ((k : ℕ) → new k ≡ withVersion t i v k) → heldStamp (t i) < v .stamp .number
-    → (k : ℕ) → heldStamp (t k) ≤ heldStamp (new k)
+    → NoStampFalls t new
 with-rises t new i v is above k = ⊎-elim here there (cases-eq k i)
   where
     here : k ≡ i → heldStamp (t k) ≤ heldStamp (new k)

@@ -1,8 +1,9 @@
 -- Tables of versions by key, and what makes one causal.
-use mathlib.Core.Bool.{true}
+use mathlib.Core.Bool.{true, cond}
 use mathlib.Core.List.{List}
 use mathlib.Core.Path.{_≡_}
-use Prim.Native.Nat.{ℕ}
+use Prim.Native.Nat.{ℕ, _≤_}
+use lib.Dec.{eqb}
 use lib.ListN.{getD}
 use Rattle.std.specs.declared.option.Option.the-variants.{Some, None}
 use Rattle.std.specs.declared.option.Option.{Option}
@@ -43,3 +44,11 @@ CoversHeld face held = (v : Version) → held ≡ Some v → Covers face (v .row
 -- a table is causal when its face covers the row of every version held
 abbrev pub Causal : Table → Type 0
 Causal t = (k : ℕ) → CoversHeld (faceOf t) (t k)
+
+-- the table with a version put in at a key
+abbrev pub withVersion : Table → ℕ → Version → Table
+withVersion t key v k = cond (eqb k key) (Some v) (t k)
+
+-- no stamp of a table falls
+abbrev pub NoStampFalls : Table → Table → Type 0
+NoStampFalls old new = (k : ℕ) → heldStamp (old k) ≤ heldStamp (new k)

@@ -1,11 +1,11 @@
 ghost use mathlib.Core.Path.{_≡_};
 ghost use mathlib.Core.Bool.{true};
-ghost use Prim.Native.Nat.{ℕ, _<_, _≤_};
+ghost use Prim.Native.Nat.{ℕ, _<_};
 ghost use Rattle.std.specs.Options.{Cases as BySome};
 ghost use Rattle.std.specs.Orderings.{Decides};
 ghost use Rattle.stamps.specs.KeySets.{has};
 ghost use Rattle.stamps.specs.Numbers.{keys};
-ghost use Rattle.causal.specs.Tables.{heldStamp, faceOf, CoversHeld};
+ghost use Rattle.causal.specs.Tables.{heldStamp, faceOf, CoversHeld, NoStampFalls};
 ghost use Rattle.causal.specs.Holding.{holding, answered};
 ghost use Rattle.causal.specs.Choosing.{isNewer, putIn, Fits, LargestFit, Chosen, WithheldHere};
 use crate::answers::Answers;
@@ -23,7 +23,7 @@ impl Cut {
     pub fn choose(&mut self, answers: &Answers) -> (u32, u32)
         ensures chosen { λ r. ⌜ Chosen (holding (now (self .entry))) (answered (now (answers .entry))) (holding (now (self .exit))) (r .0) (r .1) ⌝ }
         ensures withheld { λ r. ⌜ WithheldHere (holding (now (self .entry))) (answered (now (answers .entry))) (holding (now (self .exit))) ⌝ }
-        ensures no_stamp_falls { λ r. ⌜ ((k : ℕ) → heldStamp (holding (now (self .entry)) k) ≤ heldStamp (holding (now (self .exit)) k)) ⌝ }
+        ensures no_stamp_falls { λ r. ⌜ NoStampFalls (holding (now (self .entry))) (holding (now (self .exit))) ⌝ }
     {
         let newer = self.newer_keys(answers);
         let fitting = self.fitting_keys(answers, newer);

@@ -1,11 +1,11 @@
 ghost use mathlib.Core.Path.{_≡_};
-ghost use mathlib.Core.Bool.{true, cond};
+ghost use mathlib.Core.Bool.{true};
 ghost use Prim.Native.Nat.{ℕ, _<_};
-ghost use lib.Dec.{eqb};
 ghost use Rattle.std.specs.Results.{Cases};
 ghost use Rattle.std.specs.declared.option.Option.the-variants.{Some, None};
 ghost use Rattle.versions.specs.Versions.{isVersion};
 ghost use Rattle.stamps.specs.declared.refusal.Refusal.the-variants.{OutOfRange};
+ghost use Rattle.causal.specs.Tables.{withVersion};
 ghost use Rattle.causal.specs.Holding.{answered};
 use crate::answers::Answers;
 use stamps::limits::PLACES;
@@ -27,7 +27,7 @@ impl Answers {
     pub fn note(&mut self, key: u32, version: &Version) -> Result<(), Refusal>
         ensures { λ r. ⌜ Cases r
             (λ _. (isVersion (now (version .entry)) ≡ true) × (now (version .entry) .key ≡ key)
-            × ((k : ℕ) → answered (now (self .exit)) k ≡ cond (eqb k key) (Some (now (version .entry))) (answered (now (self .entry)) k)))
+            × ((k : ℕ) → answered (now (self .exit)) k ≡ withVersion (answered (now (self .entry))) key (now (version .entry)) k))
             (λ e. (e ≡ OutOfRange) × ((isVersion (now (version .entry)) ≡ true) × (now (version .entry) .key ≡ key) → ⊥)
             × (now (self .exit) ≡ now (self .entry))) ⌝ }
     {

@@ -1,7 +1,5 @@
 ghost use mathlib.Core.Path.{_≡_};
-ghost use mathlib.Core.Bool.{cond};
 ghost use Prim.Native.Nat.{ℕ, _<_, _≤_};
-ghost use lib.Dec.{eqb};
 ghost use Rattle.std.specs.Options.{isSome};
 ghost use Rattle.std.specs.Results.{Cases};
 ghost use Rattle.std.specs.Vec.{made};
@@ -9,7 +7,7 @@ ghost use Rattle.std.specs.declared.option.Option.the-variants.{Some};
 ghost use Rattle.stamps.specs.KeySets.{has};
 ghost use Rattle.stamps.specs.Numbers.{counter-limit};
 ghost use Rattle.stamps.specs.declared.refusal.Refusal.the-variants.{OutOfRange, CounterSpent};
-ghost use Rattle.causal.specs.Tables.{heldStamp};
+ghost use Rattle.causal.specs.Tables.{withVersion, NoStampFalls};
 ghost use Rattle.causal.specs.Holding.{holding};
 ghost use Rattle.causal.specs.Posting.{counterAfter, nextCounter, causesOf, rowOfPost, Drafted, FitToEnter};
 use crate::cut::Cut;
@@ -68,11 +66,10 @@ impl Cut {
     pub fn enter(&mut self, version: &Version) -> Result<(), Refusal>
         ensures entered { λ r. ⌜ Cases r
             (λ _. FitToEnter (holding (now (self .entry))) (now (version .entry))
-            × ((k : ℕ) → holding (now (self .exit)) k
-            ≡ cond (eqb k (now (version .entry) .key)) (Some (now (version .entry))) (holding (now (self .entry)) k)))
+            × ((k : ℕ) → holding (now (self .exit)) k ≡ withVersion (holding (now (self .entry))) (now (version .entry) .key) (now (version .entry)) k))
             (λ e. (e ≡ OutOfRange) × (FitToEnter (holding (now (self .entry))) (now (version .entry)) → ⊥)
             × (now (self .exit) ≡ now (self .entry))) ⌝ }
-        ensures no_stamp_falls { λ r. ⌜ ((k : ℕ) → heldStamp (holding (now (self .entry)) k) ≤ heldStamp (holding (now (self .exit)) k)) ⌝ }
+        ensures no_stamp_falls { λ r. ⌜ NoStampFalls (holding (now (self .entry))) (holding (now (self .exit))) ⌝ }
     {
         if !version.is_version() || !self.face.covers(&version.row) {
             return Err(Refusal::OutOfRange);

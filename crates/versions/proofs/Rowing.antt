@@ -2,7 +2,7 @@
 use mathlib.Core.List.{List}
 use mathlib.Core.Logic.{⊎-elim}
 use mathlib.Core.Path.{_≡_, sym, ap, _∙_}
-use Prim.Native.Nat.{ℕ, _^_, _≤_, _<_, max}
+use Prim.Native.Nat.{ℕ, _≤_, _<_, max}
 use native.Mathlib.Nat.{zero-add}
 use native.Mathlib.Omega.{arith}
 use lib.ListN.{length, getD, take}
@@ -12,7 +12,7 @@ use Rattle.std.proofs.shelf.Tests.{cases-lt}
 use Rattle.stamps.specs.Numbers.{keys}
 use Rattle.stamps.specs.declared.stamp.Stamp.{Stamp}
 use Rattle.versions.specs.Joins.{JoinLaws}
-use Rattle.versions.specs.Rows.{stamp, stampAt, rowOf, zeros, Covers, joinedStamps, joinedRows}
+use Rattle.versions.specs.Rows.{stamp, ProperStamp, ProperRow, stampAt, rowOf, zeros, Covers, joinedStamps, joinedRows}
 use Rattle.versions.specs.declared.row.Row.{Row}
 
 -- reading the array of a row
@@ -62,7 +62,7 @@ stamp-at-join a b k =
 pub stamp-at-zeros : (k : ℕ) → stampAt zeros k ≡ 0
 stamp-at-zeros k = ⊎-elim (λ h. stamp-at-row (λ j. 0) k h) (λ h. stamp-past zeros k h) (cases-lt k keys)
 
-pub row-laws : JoinLaws (λ (r : Row). length (r .stamps) ≡ keys) zeros joinedRows
+pub row-laws : JoinLaws ProperRow zeros joinedRows
 row-laws = record {
   proper-neutral = row-length (λ k. 0);
   proper-join = λ x y p q. row-length (λ k. max (stampAt x k) (stampAt y k));
@@ -73,7 +73,7 @@ row-laws = record {
   repeats = λ x p. row-itself x (λ k. max (stampAt x k) (stampAt x k)) p (λ k h. omega arith);
 }
 
-pub stamp-laws : JoinLaws (λ (s : Stamp). s .number < 2 ^ 32) (stamp 0) joinedStamps
+pub stamp-laws : JoinLaws ProperStamp (stamp 0) joinedStamps
 stamp-laws = record {
   proper-neutral = omega arith;
   proper-join = λ x y p q. omega arith;

@@ -2,12 +2,7 @@
 use mathlib.Core.List.{List, [], _∷_}
 use mathlib.Core.Logic.{_⊎_}
 use mathlib.Core.Path.{_≡_}
-use Prim.Native.Nat.{_^_, _<_}
-use lib.ListN.{length}
-use Rattle.stamps.specs.Numbers.{keys}
-use Rattle.stamps.specs.declared.stamp.Stamp.{Stamp}
-use Rattle.versions.specs.Rows.{stamp, zeros, joinedStamps, joinedRows}
-use Rattle.versions.specs.declared.row.Row.{Row}
+use Rattle.versions.specs.Rows.{stamp, ProperStamp, ProperRow, zeros, joinedStamps, joinedRows}
 
 -- the laws of a join, for the values that are proper (those that code can make)
 pub record JoinLaws {X : Type 0} (proper : X → Type 0) (neutral : X) (op : X → X → X) : Type 0 where
@@ -53,7 +48,7 @@ OrderAndRepeatsMakeNoDifference {X} proper neutral op =
 
 -- what this says of stamps and rows, and what their empty lists join to
 pub record JoinsOfStampsAndRows : Type 0 where
-  pub stamps-in-any-order : OrderAndRepeatsMakeNoDifference (λ (s : Stamp). s .number < 2 ^ 32) (stamp 0) joinedStamps
-  pub rows-in-any-order : OrderAndRepeatsMakeNoDifference (λ (r : Row). length (r .stamps) ≡ keys) zeros joinedRows
+  pub stamps-in-any-order : OrderAndRepeatsMakeNoDifference ProperStamp (stamp 0) joinedStamps
+  pub rows-in-any-order : OrderAndRepeatsMakeNoDifference ProperRow zeros joinedRows
   pub no-stamps-join-to-0 : joined (stamp 0) joinedStamps [] ≡ stamp 0
   pub no-rows-join-to-zeros : joined zeros joinedRows [] ≡ zeros

@@ -1,7 +1,8 @@
 -- Rows: one stamp for each key.
 use mathlib.Core.List.{map}
-use Prim.Native.Nat.{ℕ, _≤_, max}
-use lib.ListN.{getD, take}
+use mathlib.Core.Path.{_≡_}
+use Prim.Native.Nat.{ℕ, _^_, _≤_, _<_, max}
+use lib.ListN.{length, getD, take}
 use Rattle.std.specs.Iters.{counting}
 use Rattle.stamps.specs.Numbers.{keys}
 use Rattle.stamps.specs.declared.stamp.Stamp.{Stamp}
@@ -10,6 +11,14 @@ use Rattle.versions.specs.declared.row.Row.{Row}
 -- the stamp with a number
 abbrev pub stamp : ℕ → Stamp
 stamp n = record { number = n }
+
+-- a stamp that code can make has a number of 32 bits
+abbrev pub ProperStamp : Stamp → Type 0
+ProperStamp s = s .number < 2 ^ 32
+
+-- a row that code can make has one place for each key
+abbrev pub ProperRow : Row → Type 0
+ProperRow r = length (r .stamps) ≡ keys
 
 -- the number of the stamp at a key; 0 where there is none
 unfoldable pub stampAt : Row → ℕ → ℕ

@@ -1,9 +1,7 @@
 ghost use mathlib.Core.Path.{_≡_};
-ghost use Prim.Native.Nat.{_^_, _<_};
-ghost use lib.ListN.{length};
-ghost use Rattle.stamps.specs.Numbers.{keys};
+ghost use Prim.Native.Nat.{_<_};
 ghost use Rattle.versions.specs.Joins.{JoinLaws, joined, OrderAndRepeatsMakeNoDifference, JoinsOfStampsAndRows};
-ghost use Rattle.versions.specs.Rows.{stamp, zeros, joinedStamps, joinedRows};
+ghost use Rattle.versions.specs.Rows.{stamp, ProperStamp, ProperRow, zeros, joinedStamps, joinedRows};
 use crate::row::Row;
 use stamps::limits::PLACES;
 use stamps::stamp::Stamp;
@@ -30,7 +28,7 @@ pub trait Join: Copy {
 
 // Stamps: the higher one.
 pub impl Join for Stamp as StampJoin {
-    ghost proper = { λ s. s .number < 2 ^ 32 };
+    ghost proper = { ProperStamp };
 
     ghost neutral = { stamp 0 };
 
@@ -49,7 +47,7 @@ pub impl Join for Stamp as StampJoin {
 
 // Rows: the higher stamp at each key.
 pub impl Join for Row as RowJoin {
-    ghost proper = { λ r. length (r .stamps) ≡ keys };
+    ghost proper = { ProperRow };
 
     ghost neutral = { zeros };
 
