@@ -1,5 +1,7 @@
 // A bar, and the two entries that rest on it, carried between the sites over each make of store, tick by tick; then
 // puts without a tick, until each make is barred.
+#![tactic(auto)]
+
 ghost use Rattle.std.specs.Prelude.{◌≡◌, IfOk, Ok};
 
 use crate::carrying::{carry, fill};

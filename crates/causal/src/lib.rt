@@ -1,4 +1,6 @@
 // The causal cut of a card terminal: what it holds, which newer answers may enter it, and what a post adds.
+#![tactic(auto)]
+
 pub mod answers;
 pub mod choose;
 pub mod cut;

@@ -1,4 +1,6 @@
 // Examples, run as tests: a table of stamps, and choosing on hand-made answers.
+#![tactic(auto)]
+
 #[cfg(test)]
 mod tests {
     use causal::answers::Answers;

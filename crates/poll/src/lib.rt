@@ -1,4 +1,6 @@
 // The poll layer: over any store, a store that shows a snapshot of the one below, copied once in each period.
+#![tactic(auto)]
+
 pub mod copying;
 pub mod countdown;
 pub mod limits;

@@ -1,4 +1,6 @@
 // Replicas: a store kept as a register for each site and key, and deliveries on their way between sites.
+#![tactic(auto)]
+
 mod deliveries;
 mod delivery;
 pub mod limits;

@@ -1,4 +1,6 @@
 // The log: a base register for each key, a tail of versions, and for each site how far it has read the tail.
+#![tactic(auto)]
+
 mod change;
 mod entries;
 pub mod limits;

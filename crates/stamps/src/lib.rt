@@ -1,4 +1,6 @@
 // Stamps, values, refusals and sets of keys: what every other crate counts and compares with.
+#![tactic(auto)]
+
 pub mod keyset;
 pub mod limits;
 pub mod refusal;

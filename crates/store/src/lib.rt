@@ -1,4 +1,6 @@
 // What any store is: its meaning, the laws of its make, the trait; and registers, of which stores are built.
+#![tactic(auto)]
+
 pub mod by_key;
 pub mod by_site;
 pub mod put_refusal;

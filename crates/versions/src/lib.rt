@@ -1,4 +1,6 @@
 // Rows and versions, their reach, covering, and joining.
+#![tactic(auto)]
+
 pub mod join;
 pub mod row;
 pub mod version;

@@ -1,5 +1,7 @@
 // One job from start to finish: a lost card is barred, replaced and its balance moved at the office; at the
 // canteen the balance arrives first and is withheld until the bar behind it has come.
+#![tactic(auto)]
+
 ghost use Rattle.std.specs.Prelude.{◌≡◌, IfOk, Ok};
 
 use anyhow::anyhow;

@@ -9,4 +9,4 @@ unfolding terminal_of
 returns c =
     let n = c.args.self.number in
     subst (λ (counter : ℕ). InStampRange counter (terminal_of n) × (n ≡ counter * factor + terminal_of n)) (sym c.counter.ensures)
-    (parts_of_stamp n (sym c.if-not-is-stamp.ensures))
+    (parts_of_stamp n (sym c.if-not-is_stamp.ensures))
