@@ -73,7 +73,7 @@ impl Join for Row {
 
 // The join of a list, taken first to last; the neutral element for the empty list.
 pub fn join_all<T: Join>(values: &[T]) -> T
-    ensures { result ≡ joined neutral op values.now }
+    ensures { result ≡ joined T.neutral T.op values.now }
 {
     let mut sum = T::neutral();
     for value in values {
@@ -84,7 +84,7 @@ pub fn join_all<T: Join>(values: &[T]) -> T
 
 // Theorem: order and repeats make no difference to what a list joins to. It has no code.
 pub fn order_and_repeats<T: Join>()
-    ensures { OrderAndRepeatsMakeNoDifference {X = T} proper neutral op }
+    ensures { OrderAndRepeatsMakeNoDifference {X = T} T.proper T.neutral T.op }
 {}
 
 // Theorem: so it is for stamps and rows; no stamps join to 0, and no rows to the row of zeros. It has no code.

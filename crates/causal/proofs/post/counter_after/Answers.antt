@@ -14,14 +14,14 @@ next : (stamps : List Stamp) → length stamps ≡ keys → (highest : Stamp) �
     → counter_of highest.number + 1 ≡ counter_after (record { stamps = stamps })
 next stamps long highest e = ap (λ (n : ℕ). n + 1) (ap (λ (s : Stamp). counter_of s.number) e ∙ joined_highest (record { stamps = stamps }) long)
 
-pub overflow-add-counter : goal.overflow-add-counter
-overflow-add-counter c = omega (arith, c.counter-counter.ensures, counter_fits c.join-all-highest.result.number (search rules))
+pub overflow_add-counter : goal.overflow_add-counter
+overflow_add-counter c = omega (arith, c.counter-counter.ensures, counter_fits c.join_all-highest.result.number (search rules))
 
-pub returns-then-counter-gt-COUNTER-LIMIT : goal.returns-then-counter-gt-COUNTER-LIMIT
-returns-then-counter-gt-COUNTER-LIMIT c =
-    (refl, omega (arith, next c.args.stamps.now c.told-stamps c.join-all-highest.result c.join-all-highest.ensures, c.counter-counter.ensures, c.if-counter-gt-COUNTER-LIMIT.true))
+pub returns-then-counter-gt-COUNTER_LIMIT : goal.returns-then-counter-gt-COUNTER_LIMIT
+returns-then-counter-gt-COUNTER_LIMIT c =
+    (refl, omega (arith, next c.args.stamps.now c.told-stamps c.join_all-highest.result c.join_all-highest.ensures, c.counter-counter.ensures, c.if-counter-gt-COUNTER_LIMIT.true))
 
 pub returns : goal.returns
 returns c =
-    let n = next c.args.stamps.now c.told-stamps c.join-all-highest.result c.join-all-highest.ensures in
-    (omega (arith, n, c.counter-counter.ensures), c.if-counter-gt-COUNTER-LIMIT.false)
+    let n = next c.args.stamps.now c.told-stamps c.join_all-highest.result c.join_all-highest.ensures in
+    (omega (arith, n, c.counter-counter.ensures), c.if-counter-gt-COUNTER_LIMIT.false)

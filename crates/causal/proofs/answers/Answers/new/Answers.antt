@@ -3,8 +3,8 @@ use Rattle.versions.specs.Versions.{is_version}
 use Rattle.causal.proofs.Tabling.{no_places, nothing_held}
 use Rattle.causal.proofs.answers.Answers.new.Goals as goal
 
-pub invariant-of-result : goal.invariant-of-result
-invariant-of-result c = (refl, (nothing_held _ (no_places 32) (λ k v. is_version v ≡ true), (nothing_held _ (no_places 32) (λ k v. v.key ≡ k), tt)))
+pub invariant_of-result : goal.invariant_of-result
+invariant_of-result c = (refl, (nothing_held _ (no_places 32) (λ k v. is_version v ≡ true), (nothing_held _ (no_places 32) (λ k v. v.key ≡ k), tt)))
 
 pub returns : goal.returns
 returns c = no_places 32

@@ -12,15 +12,15 @@ within : (v : Version) (key : ℕ) (r : Bool) → r ≡ is_version v → r ≡ t
 within v key r tells t e = omega (arith, key_within v r tells t)
 
 pub bounds-self-key : goal.bounds-self-key
-bounds-self-key c = within c.args.version.now c.args.key c.is-version.result c.is-version.ensures c.if-not-is-version.false c.if-version-key.false
+bounds-self-key c = within c.args.version.now c.args.key c.is_version.result c.is_version.ensures c.if-not-is_version.false c.if-version-key.false
 
-pub invariant-of-self : goal.invariant-of-self
-invariant-of-self c =
+pub invariant_of-self : goal.invariant_of-self
+invariant_of-self c =
     let v = c.args.version.now in
     let key = c.args.key in
     let answers = c.args.self.now in
-    let is = sym c.is-version.ensures ∙ c.if-not-is-version.false in
-    let h = within v key c.is-version.result c.is-version.ensures c.if-not-is-version.false c.if-version-key.false in
+    let is = sym c.is_version.ensures ∙ c.if-not-is_version.false in
+    let h = within v key c.is_version.result c.is_version.ensures c.if-not-is_version.false c.if-version-key.false in
     let after = place_set answers.given key (Some v) (omega (arith, h, answers.sized)) in (
       length-set answers.given key (Some v) ∙ answers.sized,
       (
@@ -34,8 +34,8 @@ returns c =
     let v = c.args.version.now in
     let key = c.args.key in
     let answers = c.args.self.now in
-    let h = within v key c.is-version.result c.is-version.ensures c.if-not-is-version.false c.if-version-key.false in (
-      sym c.is-version.ensures ∙ c.if-not-is-version.false,
+    let h = within v key c.is_version.result c.is_version.ensures c.if-not-is_version.false c.if-version-key.false in (
+      sym c.is_version.ensures ∙ c.if-not-is_version.false,
       c.if-version-key.false,
       place_set answers.given key (Some v) (omega (arith, h, answers.sized)),
     )

@@ -53,19 +53,19 @@ masked : (cut : Cut) (sale held causes : ℕ → Bool) → ((k : ℕ) → held k
     → (k : ℕ) → causes k ≡ (sale k && is_some (holding cut k))
 masked cut sale held causes is both k = both k ∙ ap (λ (b : Bool). sale k && b) (is k)
 
-pub returns-then-not-is-older : goal.returns-then-not-is-older
-returns-then-not-is-older c =
+pub returns-then-not-is_older : goal.returns-then-not-is_older
+returns-then-not-is_older c =
     let cut = c.args.self.now in
     let sale = has c.args.sale in
     let causes = has c.masked-causes.result in
-    let same = causes_masked keys (holding cut) sale causes (masked cut sale (has c.keys-held-held.result) causes c.keys-held-held.ensures c.masked-causes.ensures) in
-    let row = c.row-of-row.ensures ∙ ap row_of_post same in
-    let counter = c.in-ok-counter.ensures in
-    let older = ap (row_older c.in-ok-counter.counter) (sym row) ∙ sym c.if-not-is-older.ensures in
-    let at = late c.in-ok-counter.counter (row_of_post (causes_of (holding cut) sale)) (post_stamped (holding cut) cut.versions sale) older in
+    let same = causes_masked keys (holding cut) sale causes (masked cut sale (has c.keys_held-held.result) causes c.keys_held-held.ensures c.masked-causes.ensures) in
+    let row = c.row_of-row.ensures ∙ ap row_of_post same in
+    let counter = c.in_ok-counter.ensures in
+    let older = ap (row_older c.in_ok-counter.counter) (sym row) ∙ sym c.if-not-is_older.ensures in
+    let at = late c.in_ok-counter.counter (row_of_post (causes_of (holding cut) sale)) (post_stamped (holding cut) cut.versions sale) older in
     record {
       drafted =
-          cause_not_older (c.if-terminal-ge-TERMINALS.false, c.if-key-ge-KEYS.false, sym c.in-range.ensures ∙ c.if-not-in-range.false)
+          cause_not_older (c.if-terminal-ge-TERMINALS.false, c.if-key-ge-KEYS.false, sym c.in_range.ensures ∙ c.if-not-in_range.false)
           (subst (λ (n : ℕ). n ≤ counter_limit) counter.0 counter.1) at.0
           (subst (λ (n : ℕ). n ≤ counter_of (stamp_at (row_of_post (causes_of (holding cut) sale)) at.0)) counter.0 at.1) refl;
       enters = tt;
@@ -95,20 +95,20 @@ returns c =
     let t = holding cut in
     let sale = has c.args.sale in
     let causes = has c.masked-causes.result in
-    let both = masked cut sale (has c.keys-held-held.result) causes c.keys-held-held.ensures c.masked-causes.ensures in
-    let row = c.row-of-row.ensures ∙ ap row_of_post (causes_masked keys t sale causes both) in
+    let both = masked cut sale (has c.keys_held-held.result) causes c.keys_held-held.ensures c.masked-causes.ensures in
+    let row = c.row_of-row.ensures ∙ ap row_of_post (causes_masked keys t sale causes both) in
     let count = c.len.ensures ∙ count_same keys causes (λ k. sale k && is_some (t k)) (λ k h. both k) ∙ sym (causes_count keys t sale) in
-    let counter = c.in-ok-counter.ensures in
-    let made = c.in-ok-stamp.ensures in
-    let within_range : InPostRange c.args.terminal c.args.key c.args.value = (c.if-terminal-ge-TERMINALS.false, c.if-key-ge-KEYS.false, sym c.in-range.ensures ∙ c.if-not-in-range.false) in
-    let older = sym c.if-not-is-older.ensures in
-    let n = c.in-ok-counter.counter in
+    let counter = c.in_ok-counter.ensures in
+    let made = c.in_ok-stamp.ensures in
+    let within_range : InPostRange c.args.terminal c.args.key c.args.value = (c.if-terminal-ge-TERMINALS.false, c.if-key-ge-KEYS.false, sym c.in_range.ensures ∙ c.if-not-in_range.false) in
+    let older = sym c.if-not-is_older.ensures in
+    let n = c.in_ok-counter.counter in
     record {
       drafted =
           drafted within_range (subst (λ (m : ℕ). m ≤ counter_limit) counter.0 counter.1)
           (λ k. subst (λ (m : ℕ). counter_of (stamp_at (row_of_post (causes_of t sale)) k) < m) counter.0
           (older_counter n (stamp_at (row_of_post (causes_of t sale)) k) made.0.0
           (row_older_at n (row_of_post (causes_of t sale)) (ap (row_older n) (sym row) ∙ older) k)))
-          (whole t sale c.args.key c.args.value n c.args.terminal c.len.result c.in-ok-stamp.stamp c.row-of-row.result counter.0 made.1 row count);
-      enters = enters cut sale c.args.key c.args.value n c.args.terminal c.in-ok-stamp.stamp c.row-of-row.result within_range made.0 counter.0 made.1 row older;
+          (whole t sale c.args.key c.args.value n c.args.terminal c.len.result c.in_ok-stamp.stamp c.row_of-row.result counter.0 made.1 row count);
+      enters = enters cut sale c.args.key c.args.value n c.args.terminal c.in_ok-stamp.stamp c.row_of-row.result within_range made.0 counter.0 made.1 row older;
     }

@@ -21,33 +21,33 @@ fit cut v is covers above =
     }
 
 pub bounds-self-key : goal.bounds-self-key
-bounds-self-key c = key_within c.args.version.now c.is-version.result c.is-version.ensures c.if-not-is-version.false
+bounds-self-key c = key_within c.args.version.now c.is_version.result c.is_version.ensures c.if-not-is_version.false
 
 pub bounds-self-key-2 : goal.bounds-self-key-2
-bounds-self-key-2 c = key_within c.args.version.now c.is-version.result c.is-version.ensures c.if-not-is-version.false
+bounds-self-key-2 c = key_within c.args.version.now c.is_version.result c.is_version.ensures c.if-not-is_version.false
 
 pub bounds-self-key-3 : goal.bounds-self-key-3
-bounds-self-key-3 c = key_within c.args.version.now c.is-version.result c.is-version.ensures c.if-not-is-version.false
+bounds-self-key-3 c = key_within c.args.version.now c.is_version.result c.is_version.ensures c.if-not-is_version.false
 
 pub returns-then-version-self : goal.returns-then-version-self
 returns-then-version-self c =
     let cut = c.args.self.now in
     let v = c.args.version.now in
-    let h = key_within v c.is-version.result c.is-version.ensures c.if-not-is-version.false in
+    let h = key_within v c.is_version.result c.is_version.ensures c.if-not-is_version.false in
     record {
       entered = (
         refl,
         (λ f. omega (arith, f.above, c.if-version-self.true, face_read cut.face (holding cut) cut.faced v.key h)),
         refl,
       );
-      no-stamp-falls = λ k. le_refl _;
+      no_stamp_falls = λ k. le_refl _;
     }
 
-pub invariant-of-self : goal.invariant-of-self
-invariant-of-self c =
+pub invariant_of-self : goal.invariant_of-self
+invariant_of-self c =
     let cut = c.args.self.now in
     let v = c.args.version.now in
-    let is = sym c.is-version.ensures ∙ c.if-not-is-version.false in
+    let is = sym c.is_version.ensures ∙ c.if-not-is_version.false in
     let f = fit cut v is (c.covers.ensures.0 c.if-not-covers.false) c.if-version-self.false in
     let h = (parts_of_version v is).keyed in
     let after = place_set cut.held v.key (Some v) (omega (arith, h, cut.sized)) in (
@@ -68,8 +68,8 @@ pub returns : goal.returns
 returns c =
     let cut = c.args.self.now in
     let v = c.args.version.now in
-    let is = sym c.is-version.ensures ∙ c.if-not-is-version.false in
+    let is = sym c.is_version.ensures ∙ c.if-not-is_version.false in
     let f = fit cut v is (c.covers.ensures.0 c.if-not-covers.false) c.if-version-self.false in
     let h = (parts_of_version v is).keyed in
     let after = place_set cut.held v.key (Some v) (omega (arith, h, cut.sized)) in
-    record { entered = (f, after); no-stamp-falls = with_rises (holding cut) _ v.key v after f.above }
+    record { entered = (f, after); no_stamp_falls = with_rises (holding cut) _ v.key v after f.above }

@@ -24,7 +24,7 @@ loop-k-preserved c =
     let here : new.number ≡ held_stamp (put_in old answers chosen i) =
     elim c.if-contains.branch [
       | then-contains w ↦
-          ap (λ (s : Stamp). s.number) w.stamps-is ∙ w.stamp-of.ensures
+          ap (λ (s : Stamp). s.number) w.stamps-is ∙ w.stamp_of.ensures
           ∙ sym (ap held_stamp (cond-true (chosen i) (answers i) (old i) (sym c.contains.ensures.0 ∙ w.if-contains.true)))
       | else-contains w ↦
           ap (λ (s : Stamp). s.number) w.stamps-is ∙ face_read cut.face old cut.faced i c.loop-k-test.true

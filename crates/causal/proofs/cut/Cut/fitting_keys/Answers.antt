@@ -23,6 +23,6 @@ pub returns : goal.returns
 returns c =
     let cut = c.args.self.now in
     record {
-      fits = fits_from (holding cut) (answered c.args.answers.now) (has c.loop-k.fitting) c.loop-k.invariant.0 cut.causal c.in-default.ensures;
+      fits = fits_from (holding cut) (answered c.args.answers.now) (has c.loop-k.fitting) c.loop-k.invariant.0 cut.causal c.in_default.ensures;
       largest = c.loop-k.invariant.1;
     }

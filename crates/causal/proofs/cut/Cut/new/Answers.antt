@@ -6,8 +6,8 @@ use Rattle.causal.specs.Tables.{table_of, held_stamp, face_of}
 use Rattle.causal.proofs.Tabling.{no_places, nothing_held}
 use Rattle.causal.proofs.cut.Cut.new.Goals as goal
 
-pub invariant-of-result : goal.invariant-of-result
-invariant-of-result c = (
+pub invariant_of-result : goal.invariant_of-result
+invariant_of-result c = (
   refl,
   (
     nothing_held _ (no_places 32) (λ k v. is_version v ≡ true),

@@ -9,6 +9,6 @@ use Rattle.causal.proofs.cut.Cut.next_counter.Goals as goal
 pub returns : goal.returns
 returns c =
     subst
-    (λ (r : Row). MatchResult c.counter-after.result (λ (n : ℕ). (n ≡ counter_after r) × (n ≤ counter_limit))
+    (λ (r : Row). MatchResult c.counter_after.result (λ (n : ℕ). (n ≡ counter_after r) × (n ≤ counter_limit))
     (λ (e : Refusal). (e ≡ CounterSpent) × (counter_limit < counter_after r)))
-    c.args.self.now.faced c.counter-after.ensures
+    c.args.self.now.faced c.counter_after.ensures

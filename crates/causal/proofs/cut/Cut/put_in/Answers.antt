@@ -28,8 +28,8 @@ left cut answers chosen held long within k =
     ∙ sym (nothing (chosen k) (answered answers k) (holding cut k) (past_places answers.given answers.sized k l) (past_places cut.held cut.sized k l)))
     (cases_lt k keys)
 
-pub invariant-of-self : goal.invariant-of-self
-invariant-of-self c =
+pub invariant_of-self : goal.invariant_of-self
+invariant_of-self c =
     let cut = c.args.self.now in
     let answers = c.args.answers.now in
     let chosen = has c.args.chosen in
@@ -42,7 +42,7 @@ invariant-of-self c =
         (
           (λ k v e. put_each (holding cut) (answered answers) (λ j w. w.key ≡ j) chosen cut.keyed answers.keyed k v (sym (after k) ∙ e)),
           (
-            c.face-with-face.ensures ∙ faces,
+            c.face_with-face.ensures ∙ faces,
             (causal_same (put_in (holding cut) (answered answers) chosen) (table_of c.loop-k.held) after c.requires.causal, tt),
           ),
         ),

@@ -13,7 +13,7 @@ use Rattle.causal.specs.Holding.{holding}
 use Rattle.causal.specs.Posting.{causes_below, row_of_post}
 use Rattle.causal.proofs.Drafting.{causes_skip, row_more}
 use Rattle.causal.proofs.cut.Cut.row_of.Goals as goal
-use Rattle.causal.proofs.cut.Cut.row_of.Goals.{in-Some-held, in-default-held}
+use Rattle.causal.proofs.cut.Cut.row_of.Goals.{in-Some-held, in_default-held}
 
 -- the lowest key struck out, what is left are the keys after it
 after : (from key k : ℕ) (b : Bool) → from ≤ key → (k < key → (leb from k && b) ≡ false) → (not (eqb k key) && (leb from k && b)) ≡ (leb (suc key) k && b)
@@ -53,7 +53,7 @@ loop-k-preserved c =
       | in-Some-held w ↦
           w.row-is ∙ w.join-row.ensures ∙ ap (joined_rows c.loop-k.row) w.reach.ensures
           ∙ sym (ap (λ (o : Option Version). joined_from joined_rows c.loop-k.row (map reach (option_to_list o))) w.in-Some-held.is)
-      | in-default-held w ↦ w.row-is ∙ sym (ap (λ (o : Option Version). joined_from joined_rows c.loop-k.row (map reach (option_to_list o))) w.in-default-held.is)
+      | in_default-held w ↦ w.row-is ∙ sym (ap (λ (o : Option Version). joined_from joined_rows c.loop-k.row (map reach (option_to_list o))) w.in_default-held.is)
     ] in (
       suc key,
       omega (arith, lowest.0),
@@ -71,4 +71,4 @@ returns c =
     let sale = has c.args.causes in
     let from = c.loop-k.invariant.0 in
     c.loop-k.invariant.3
-    ∙ sym (ap row_of_post (causes_skip from keys t sale c.loop-k.invariant.1 (λ k l m. between from k (sale k) l (sym (c.loop-k.invariant.2 k) ∙ c.in-default.ensures k))))
+    ∙ sym (ap row_of_post (causes_skip from keys t sale c.loop-k.invariant.1 (λ k l m. between from k (sale k) l (sym (c.loop-k.invariant.2 k) ∙ c.in_default.ensures k))))
