@@ -1,5 +1,5 @@
 -- Choosing: why the largest set that fits exists, how striking misfits finds it, and what follows from it.
-use Rattle.std.proofs.Common.{◌≡◌, ℕ, ◌+◌, ◌≤◌, Bool, true, false, cond, not, ◌&&◌, ◌||◌, eqb, ltb, ◌⊎◌, Some, Option, sym, refl, ap, ◌∙◌, subst, inl, inr, ⊎_elim, le_refl, arith}
+use Rattle.std.proofs.Common.{◌≡◌, ℕ, ◌+◌, ◌≤◌, Bool, true, false, cond, not, ◌&&◌, ◌||◌, eqb, ltb, Some, Option, sym, refl, ap, ◌∙◌, subst, inl, inr, ⊎_elim, le_refl, arith}
 use Rattle.std.proofs.lemmas.Bool.{and_parts, and_from, or_cases, or_left, or_right, ltb-true, le-ltb, cases_Bool, cases_eq, both_ways, cond-true, cond-false, ne_eqb, not_from_false}
 use Rattle.stamps.specs.Keys.{count_keys}
 use Rattle.stamps.specs.Numbers.{keys}

@@ -21,13 +21,12 @@ invariant_of-self c =
     let answers = c.args.self.now in
     let is = sym c.is_version.ensures ∙ c.if-not-is_version.false in
     let h = within v key c.is_version.result c.is_version.ensures c.if-not-is_version.false c.if-version-key.false in
-    let after = place_set answers.given key (Some v) (omega (arith, h, answers.sized)) in (
-      length-set answers.given key (Some v) ∙ answers.sized,
-      (
-        held_with (λ k w. is_version w ≡ true) (answered answers) _ key v after is answers.versions,
-        (held_with (λ k w. w.key ≡ k) (answered answers) _ key v after c.if-version-key.false answers.keyed, tt),
-      ),
-    )
+    let after = place_set answers.given key (Some v) (omega (arith, h, answers.sized)) in
+    record {
+      sized = length-set answers.given key (Some v) ∙ answers.sized;
+      versions = held_with (λ k w. is_version w ≡ true) (answered answers) _ key v after is answers.versions;
+      keyed = held_with (λ k w. w.key ≡ k) (answered answers) _ key v after c.if-version-key.false answers.keyed;
+    }
 
 pub returns : goal.returns
 returns c =

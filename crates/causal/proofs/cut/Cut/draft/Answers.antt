@@ -8,7 +8,7 @@ use Rattle.stamps.specs.declared.stamp.Stamp.{Stamp}
 use Rattle.stamps.specs.declared.value.Value.{Value}
 use Rattle.stamps.proofs.Counting.{every_fails, count_same}
 use Rattle.stamps.proofs.Stamping.{stamp_number, counter_of_stamp, counter_decides, stamp_from_parts}
-use Rattle.versions.specs.Rows.{stamp, stamp_at, Covers}
+use Rattle.versions.specs.Rows.{stamp_at, Covers}
 use Rattle.versions.specs.Versions.{row_older}
 use Rattle.versions.specs.declared.row.Row.{Row}
 use Rattle.versions.proofs.Versioning.{version_from_parts, older_counter, older_from, row_older_at}

@@ -50,19 +50,14 @@ invariant_of-self c =
     let is = sym c.is_version.ensures ∙ c.if-not-is_version.false in
     let f = fit cut v is (c.covers.ensures.0 c.if-not-covers.false) c.if-version-self.false in
     let h = (parts_of_version v is).keyed in
-    let after = place_set cut.held v.key (Some v) (omega (arith, h, cut.sized)) in (
-      length-set cut.held v.key (Some v) ∙ cut.sized,
-      (
-        held_with (λ k w. is_version w ≡ true) (holding cut) _ v.key v after is cut.versions,
-        (
-          held_with (λ k w. w.key ≡ k) (holding cut) _ v.key v after refl cut.keyed,
-          (
-            face_set cut.face cut.held v.key v cut.faced cut.sized h,
-            (causal_with (holding cut) _ v.key v after f.above f.covered cut.causal, tt),
-          ),
-        ),
-      ),
-    )
+    let after = place_set cut.held v.key (Some v) (omega (arith, h, cut.sized)) in
+    record {
+      sized = length-set cut.held v.key (Some v) ∙ cut.sized;
+      versions = held_with (λ k w. is_version w ≡ true) (holding cut) _ v.key v after is cut.versions;
+      keyed = held_with (λ k w. w.key ≡ k) (holding cut) _ v.key v after refl cut.keyed;
+      faced = face_set cut.face cut.held v.key v cut.faced cut.sized h;
+      causal = causal_with (holding cut) _ v.key v after f.above f.covered cut.causal;
+    }
 
 pub returns : goal.returns
 returns c =

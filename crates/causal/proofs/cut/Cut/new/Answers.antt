@@ -7,16 +7,14 @@ use Rattle.causal.proofs.Tabling.{no_places, nothing_held}
 use Rattle.causal.proofs.cut.Cut.new.Goals as goal
 
 pub invariant_of-result : goal.invariant_of-result
-invariant_of-result c = (
-  refl,
-  (
-    nothing_held _ (no_places 32) (λ k v. is_version v ≡ true),
-    (
-      nothing_held _ (no_places 32) (λ k v. v.key ≡ k),
-      (c.zeros.ensures ∙ row_same _ _ (λ k h. ap held_stamp (sym (no_places 32 k))), (nothing_held _ (no_places 32) (λ k v. Covers (face_of (table_of (replicate 32 None))) v.row), tt)),
-    ),
-  ),
-)
+invariant_of-result c =
+    record {
+      sized = refl;
+      versions = nothing_held _ (no_places 32) (λ k v. is_version v ≡ true);
+      keyed = nothing_held _ (no_places 32) (λ k v. v.key ≡ k);
+      faced = c.zeros.ensures ∙ row_same _ _ (λ k h. ap held_stamp (sym (no_places 32 k)));
+      causal = nothing_held _ (no_places 32) (λ k v. Covers (face_of (table_of (replicate 32 None))) v.row);
+    }
 
 pub returns : goal.returns
 returns c = no_places 32

@@ -35,19 +35,14 @@ invariant_of-self c =
     let chosen = has c.args.chosen in
     let after = left cut answers chosen c.loop-k.held c.loop-k.invariant.0 (λ k h. c.loop-k.invariant.1 k (omega arith)) in
     let faces : face_of (put_in (holding cut) (answered answers) chosen) ≡ face_of (table_of c.loop-k.held) =
-    row_same (λ k. held_stamp (put_in (holding cut) (answered answers) chosen k)) (λ k. held_stamp (table_of c.loop-k.held k)) (λ k h. ap held_stamp (sym (after k))) in (
-      c.loop-k.invariant.0,
-      (
-        (λ k v e. put_each (holding cut) (answered answers) (λ j w. is_version w ≡ true) chosen cut.versions answers.versions k v (sym (after k) ∙ e)),
-        (
-          (λ k v e. put_each (holding cut) (answered answers) (λ j w. w.key ≡ j) chosen cut.keyed answers.keyed k v (sym (after k) ∙ e)),
-          (
-            c.face_with-face.ensures ∙ faces,
-            (causal_same (put_in (holding cut) (answered answers) chosen) (table_of c.loop-k.held) after c.requires.causal, tt),
-          ),
-        ),
-      ),
-    )
+    row_same (λ k. held_stamp (put_in (holding cut) (answered answers) chosen k)) (λ k. held_stamp (table_of c.loop-k.held k)) (λ k h. ap held_stamp (sym (after k))) in
+    record {
+      sized = c.loop-k.invariant.0;
+      versions = (λ k v e. put_each (holding cut) (answered answers) (λ j w. is_version w ≡ true) chosen cut.versions answers.versions k v (sym (after k) ∙ e));
+      keyed = (λ k v e. put_each (holding cut) (answered answers) (λ j w. w.key ≡ j) chosen cut.keyed answers.keyed k v (sym (after k) ∙ e));
+      faced = c.face_with-face.ensures ∙ faces;
+      causal = causal_same (put_in (holding cut) (answered answers) chosen) (table_of c.loop-k.held) after c.requires.causal;
+    }
 
 pub returns : goal.returns
 returns c = left c.args.self.now c.args.answers.now (has c.args.chosen) c.loop-k.held c.loop-k.invariant.0 (λ k h. c.loop-k.invariant.1 k (omega arith))

@@ -9,8 +9,8 @@ use Rattle.replicas.specs.Replicas.{Addressed, delivered, has_come}
 use Rattle.replicas.specs.Delivering.{deliver_more}
 use Rattle.replicas.proofs.deliveries.Deliveries.deliver.Goals as goal
 
-pub deliver-one-requires : goal.deliver-one-requires
-deliver-one-requires c =
+pub deliver_one-requires : goal.deliver_one-requires
+deliver_one-requires c =
     let d = c.args.self.now in
     let i = c.loop-i.i in (
       c.loop-i-test.true,
@@ -22,6 +22,6 @@ pub loop-i-preserved : goal.loop-i-preserved
 loop-i-preserved c s k =
     let d = c.args.self.now in
     let i = c.loop-i.i in
-    c.deliver-one.ensures s k
+    c.deliver_one.ensures s k
     ∙ ap (λ (t : Sites). delivered t (filter has_come (get_or d.places i no_delivery ∷ [])) s k) (fun_ext (λ x. fun_ext (λ y. c.loop-i.invariant x y)))
     ∙ sym (ap (λ (t : Sites). t s k) (deliver_more (registered_at c.args.registers.now) d.places i no_delivery (omega (arith, c.loop-i-test.true, d.sized, d.fits))))

@@ -11,9 +11,9 @@ loop-i-preserved c =
     let now = c.loop-i.self in
     let i = c.loop-i.i in
     let inv = c.loop-i.invariant in
-    let one = c.lower-one-due.ensures in
+    let one = c.lower_one-due.ensures in
     let more =
-    lower_more old.places now.places i c.loop-i.due c.lower-one-due.result (omega (arith, c.loop-i-test.true, old.sized, old.fits))
+    lower_more old.places now.places i c.loop-i.due c.lower_one-due.result (omega (arith, c.loop-i-test.true, old.sized, old.fits))
     (omega (arith, c.loop-i-test.true, now.sized, old.fits)) inv.1 inv.2 inv.3
     (one.due ∙ ap (λ (ps : List Delivery). has_come (get_or ps i no_delivery)) one.lowered) in (
       one.len ∙ inv.0,

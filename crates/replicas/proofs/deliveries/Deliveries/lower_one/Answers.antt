@@ -10,7 +10,7 @@ returns c =
     let i = c.args.i in
     let old = get_or d.places i no_delivery in
     record {
-      lowered = ap (λ (n : ℕ). set d.places i (record { version = old.version; site = old.site; left = n })) c.saturating-sub-left.ensures;
+      lowered = ap (λ (n : ℕ). set d.places i (record { version = old.version; site = old.site; left = n })) c.saturating_sub-left.ensures;
       len = refl;
       due = sym (ap has_come (get_or-set_same d.places i _ no_delivery (omega (arith, c.requires, d.sized, d.fits))));
     }

@@ -5,10 +5,14 @@ use Rattle.replicas.specs.Replicas.{ReplicasGood, ReplicasState, replicas_mean}
 use Rattle.replicas.specs.Soundness.{start_good, start_new}
 use Rattle.replicas.proofs.replicas.Replicas.new.Goals as goal
 
-pub invariant-of-result : goal.invariant-of-result
-invariant-of-result c =
+pub invariant_of-result : goal.invariant_of-result
+invariant_of-result c =
     let ts = times_of c.args.times in
-    let good = subst ReplicasGood (sym (c.new.ensures ts)) (start_good ts c.args.times.limited) in (good.deliveries_fit, (good.forecasts_agree, tt))
+    let good = subst ReplicasGood (sym (c.new.ensures ts)) (start_good ts c.args.times.limited) in
+    record {
+      fit = good.deliveries_fit;
+      agreeing = good.forecasts_agree;
+    }
 
 pub returns : goal.returns
 returns c =

@@ -8,12 +8,12 @@ use Rattle.replicas.proofs.serve.ReplicasStore.put.Goals as goal
 
 pub returns-in-Some : goal.returns-in-Some
 returns-in-Some c =
-    refused_barred c.in-ok-check-put.ensures c.in-Some.bar (sym c.bar.ensures ∙ c.in-Some.is) refl refl
+    refused_barred c.in_ok-check_put.ensures c.in-Some.bar (sym c.bar.ensures ∙ c.in-Some.is) refl refl
 
-pub invariant-of-self : goal.invariant-of-self
-invariant-of-self c =
+pub invariant_of-self : goal.invariant_of-self
+invariant_of-self c =
     let r = c.args.self.now in
     let good =
     subst ReplicasGood (sym c.put.ensures)
-    (put_good (replicas_state r) c.args.site c.args.version (good_of r) c.in-ok-check-put.ensures (sym c.bar.ensures ∙ c.in-default.is)) in
-    (good.deliveries_fit, (good.forecasts_agree, tt))
+    (put_good (replicas_state r) c.args.site c.args.version (good_of r) c.in_ok-check_put.ensures (sym c.bar.ensures ∙ c.in_default.is)) in
+    record { fit = good.deliveries_fit; agreeing = good.forecasts_agree }

@@ -8,6 +8,6 @@ pub returns : goal.returns
 returns c =
     let r = c.args.self.now in
     record {
-      answers = (λ e. ap most_left (c.is-empty.ensures.0 e), λ z. c.is-empty.ensures.1 (most_none (carries r.network) r.fit z));
+      answers = (λ e. ap most_left (c.is_empty.ensures.0 e), λ z. c.is_empty.ensures.1 (most_none (carries r.network) r.fit z));
       stays = refl;
     }

@@ -11,11 +11,11 @@ use Rattle.replicas.proofs.serve.ReplicasStore.tick.Goals as goal
 pub tick-requires : goal.tick-requires
 tick-requires c = are_addressed (carries c.args.self.now.network) c.args.self.now.fit
 
-pub invariant-of-self : goal.invariant-of-self
-invariant-of-self c =
+pub invariant_of-self : goal.invariant_of-self
+invariant_of-self c =
     let r = c.args.self.now in
     let good = subst ReplicasGood (sym (c.tick.ensures (times_of r.times))) (tick_good (replicas_state r) (good_of r)) in
-    (good.deliveries_fit, (good.forecasts_agree, tt))
+    record { fit = good.deliveries_fit; agreeing = good.forecasts_agree }
 
 pub returns : goal.returns
 returns c = c.tick.ensures (times_of c.args.self.now.times)

@@ -6,14 +6,14 @@ use Rattle.shared_log.proofs.entries.Entries.tick.Goals as goal
 
 pub fill-requires : goal.fill-requires
 fill-requires c =
-    let p = position_of c.move-on.new.self in
-    omega (arith, c.lowest-read-by-all.ensures, lowest_at_most p 0 (omega arith), c.move-on.ensures 0, c.count.ensures)
+    let p = position_of c.move_on.new.self in
+    omega (arith, c.lowest-read_by_all.ensures, lowest_at_most p 0 (omega arith), c.move_on.ensures 0, c.count.ensures)
 
-pub drop-first-requires : goal.drop-first-requires
-drop-first-requires c =
-    let p = position_of c.move-on.new.self in
-    omega (arith, c.lowest-read-by-all.ensures, lowest_at_most p 0 (omega arith), c.move-on.ensures 0, c.count.ensures)
+pub drop_first-requires : goal.drop_first-requires
+drop_first-requires c =
+    let p = position_of c.move_on.new.self in
+    omega (arith, c.lowest-read_by_all.ensures, lowest_at_most p 0 (omega arith), c.move_on.ensures 0, c.count.ensures)
 
 pub lower-requires : goal.lower-requires
 lower-requires c site h =
-    omega (arith, c.lowest-read-by-all.ensures, lowest_at_most (position_of c.move-on.new.self) site h)
+    omega (arith, c.lowest-read_by_all.ensures, lowest_at_most (position_of c.move_on.new.self) site h)

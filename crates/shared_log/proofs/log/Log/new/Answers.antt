@@ -5,11 +5,11 @@ use Rattle.shared_log.specs.Log.{LogState, LogGood, log_means}
 use Rattle.shared_log.specs.Logging.{start_good, log_new}
 use Rattle.shared_log.proofs.log.Log.new.Goals as goal
 
-pub invariant-of-result : goal.invariant-of-result
-invariant-of-result c =
+pub invariant_of-result : goal.invariant_of-result
+invariant_of-result c =
     let strides = c.args.strides in
     let good = subst LogGood (sym (c.new.ensures (stride_of strides))) (start_good (stride_of strides) strides.least strides.most) in
-    (good.within_tail, (good.lowest_is_0, tt))
+    record { within = good.within_tail; lowest = good.lowest_is_0 }
 
 pub returns : goal.returns
 returns c =

@@ -4,4 +4,4 @@ use Rattle.shared_log.proofs.serve.LogStore.ask.Goals as goal
 
 pub returns : goal.returns
 returns c =
-    record { answers = (c.in-ok-check-ask.ensures, c.shown.ensures (stride_of c.args.self.now.strides)); stays = refl }
+    record { answers = (c.in_ok-check_ask.ensures, c.shown.ensures (stride_of c.args.self.now.strides)); stays = refl }

@@ -8,15 +8,15 @@ use Rattle.shared_log.specs.Standing.{log_good}
 use Rattle.shared_log.proofs.serve.LogStore.put.Goals as goal
 
 pub returns-in-Some : goal.returns-in-Some
-returns-in-Some c = refused_barred c.in-ok-check-put.ensures c.in-Some.bar (sym c.in-Some.ensures) refl refl
+returns-in-Some c = refused_barred c.in_ok-check_put.ensures c.in-Some.bar (sym c.in-Some.ensures) refl refl
 
-pub invariant-of-self : goal.invariant-of-self
-invariant-of-self c =
+pub invariant_of-self : goal.invariant_of-self
+invariant_of-self c =
     let l = c.args.self.now in
-    let put = put_good (log_state l) c.args.version (log_good l) c.in-ok-check-put.ensures.1 (sym c.in-default.ensures) in
+    let put = put_good (log_state l) c.args.version (log_good l) c.in_ok-check_put.ensures.1 (sym c.in_default.ensures) in
     let good = subst LogGood (sym (c.put.ensures (stride_of l.strides))) put in
-    (good.within_tail, (good.lowest_is_0, tt))
+    record { within = good.within_tail; lowest = good.lowest_is_0 }
 
 pub returns : goal.returns
 returns c =
-    put_accepted c.in-ok-check-put.ensures (sym c.in-default.ensures) refl (c.put.ensures (stride_of c.args.self.now.strides))
+    put_accepted c.in_ok-check_put.ensures (sym c.in_default.ensures) refl (c.put.ensures (stride_of c.args.self.now.strides))

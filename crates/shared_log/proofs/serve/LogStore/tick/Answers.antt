@@ -5,8 +5,8 @@ use Rattle.shared_log.specs.Logging.{tick_good}
 use Rattle.shared_log.specs.Standing.{log_good}
 use Rattle.shared_log.proofs.serve.LogStore.tick.Goals as goal
 
-pub invariant-of-self : goal.invariant-of-self
-invariant-of-self c =
+pub invariant_of-self : goal.invariant_of-self
+invariant_of-self c =
     let l = c.args.self.now in
     let good = subst LogGood (sym c.tick.ensures) (tick_good (log_state l) (log_good l)) in
-    (good.within_tail, (good.lowest_is_0, tt))
+    record { within = good.within_tail; lowest = good.lowest_is_0 }

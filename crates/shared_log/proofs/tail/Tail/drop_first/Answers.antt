@@ -7,20 +7,15 @@ use Rattle.shared_log.specs.declared.tail.Tail.{Tail}
 use Rattle.shared_log.specs.Tailing.{version_at, versions_set, versions_drop, moved_down, down_more, down_rest}
 use Rattle.shared_log.proofs.tail.Tail.drop_first.Goals as goal
 
-pub invariant-of-self : goal.invariant-of-self
-invariant-of-self c =
+pub invariant_of-self : goal.invariant_of-self
+invariant_of-self c =
     let t = c.loop-place.self in
-    let l : c.loop-place.place + c.args.count < t.len = omega (arith, c.loop-place.invariant.0) in (
-      length-set t.versions _ _ ∙ t.sized,
-      (
-        t.fits,
-        (
-          versions_set t.versions t.len c.loop-place.place _ t.held
-              (version_at t.versions t.len (c.loop-place.place + c.args.count) _ t.held l (omega (arith, l, t.fits, t.sized))),
-          tt,
-        ),
-      ),
-    )
+    let l : c.loop-place.place + c.args.count < t.len = omega (arith, c.loop-place.invariant.0) in record {
+      sized = length-set t.versions _ _ ∙ t.sized;
+      fits = t.fits;
+      held = versions_set t.versions t.len c.loop-place.place _ t.held
+          (version_at t.versions t.len (c.loop-place.place + c.args.count) _ t.held l (omega (arith, l, t.fits, t.sized)));
+    }
 
 pub loop-place-preserved : goal.loop-place-preserved
 loop-place-preserved c =
@@ -43,17 +38,16 @@ left t u count place within done same moved =
     ∙ moved_down t.versions u.versions t.len count (u.sized ∙ sym t.sized) fits (omega (arith, within, length-take-le t.len t.versions fits))
     (λ k d h. moved k d (omega (arith, h, done)))
 
-pub invariant-of-self-2 : goal.invariant-of-self-2
-invariant-of-self-2 c =
+pub invariant_of-self-2 : goal.invariant_of-self-2
+invariant_of-self-2 c =
     let t = c.args.self.now in
     let u = c.loop-place.self in
-    let is = left t u c.args.count c.loop-place.place c.requires c.loop-place-test.false c.loop-place.invariant.0 c.loop-place.invariant.1 in (
-      u.sized,
-      (
-        omega (arith, u.fits),
-        (subst (λ (vs : List Version). are_versions vs ≡ true) (sym is) (versions_drop c.args.count (tail_of t) t.held), tt),
-      ),
-    )
+    let is = left t u c.args.count c.loop-place.place c.requires c.loop-place-test.false c.loop-place.invariant.0 c.loop-place.invariant.1 in
+    record {
+      sized = u.sized;
+      fits = omega (arith, u.fits);
+      held = subst (λ (vs : List Version). are_versions vs ≡ true) (sym is) (versions_drop c.args.count (tail_of t) t.held);
+    }
 
 pub returns : goal.returns
 returns c =
