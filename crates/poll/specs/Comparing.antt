@@ -1,12 +1,12 @@
 -- Stamps compared, and what is copied.
-use Rattle.std.specs.Prelude.{◌≡◌, ℕ, zero, suc, ◌<◌, ◌≤◌, Bool, true, false, ◌&&◌, List, [], None, Option, nat_eq, nat_lt, refl}
+use Rattle.std.specs.Prelude.{◌≡◌, ℕ, zero, suc, ◌<◌, Bool, true, false, ◌&&◌, None, Option, nat_eq, nat_lt, refl}
 use Rattle.std.proofs.Common.{⊎_elim, sym, ap, ap₂, ◌∙◌, arith}
-use Rattle.std.proofs.lemmas.Bool.{cond-true, cond-false, cond_both, eq-eqb, eqb-true, lt-ltb, ltb-true, and_from, and_parts, cases_Bool, cases_lt, both_ways}
+use Rattle.std.proofs.lemmas.Bool.{cond-true, cond-false, cond_both, eq-eqb, eqb-true, lt-ltb, ltb-true, and_from, and_parts, cases_Bool, both_ways}
 use Rattle.stamps.specs.Keys.{every_below}
 use Rattle.stamps.specs.Numbers.{keys, sites}
 use Rattle.stamps.proofs.Counting.{every_at, every_from}
 use Rattle.versions.specs.declared.version.Version.{Version}
-use Rattle.causal.specs.Tables.{held_stamp, table_of}
+use Rattle.causal.specs.Tables.{held_stamp}
 use Rattle.store.proofs.Registering.{past_registers}
 use Rattle.store.specs.Holding.{registered_at}
 use Rattle.store.specs.Meanings.{InAskRange}

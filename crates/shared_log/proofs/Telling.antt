@@ -1,9 +1,8 @@
 -- What a log holds and shows, told from the puts and ticks.
-use Rattle.std.proofs.Common.{◌≡◌, ℕ, zero, suc, ◌+◌, ◌-◌, ◌<◌, ◌≤◌, min, true, ◌⊎◌, List, [], ◌∷◌, ◌++◌, length, take, drop, Some, None, Ok, Err, Option, sym, refl, ap, ◌∙◌, subst, inl, inr, ⊎_elim, append_assoc, arith, take-add}
-use Rattle.std.proofs.lemmas.List.{append-nil, length-append, length-drop, length_push, take-append-le, drop-append-le, drop-drop}
+use Rattle.std.proofs.Common.{◌≡◌, ℕ, ◌+◌, ◌-◌, ◌<◌, ◌≤◌, min, true, ◌⊎◌, List, [], ◌∷◌, ◌++◌, length, take, drop, Some, None, Option, sym, refl, ap, ◌∙◌, subst, inl, inr, ⊎_elim, append_assoc, arith, take-add}
+use Rattle.std.proofs.lemmas.List.{append-nil, length-drop, length_push, take-append-le, drop-append-le, drop-drop}
 use Rattle.std.proofs.lemmas.Bool.{cases_eq, cases_lt}
 use Rattle.stamps.specs.Numbers.{sites}
-use Rattle.stamps.specs.Stamps.{counter_of}
 use Rattle.stamps.proofs.Stamping.{counter_none, counter_decides, stamp_counter}
 use Rattle.versions.specs.Joins.{In}
 use Rattle.versions.specs.Versions.{is_version}
@@ -15,8 +14,8 @@ use Rattle.store.specs.Registers.{came_to, came_all}
 use Rattle.store.specs.Runs.{Deed, did_put, did_tick, Ran, accepted_of, accepted_by}
 use Rattle.store.proofs.Keeping.{in_either}
 use Rattle.store.proofs.Registering.{taken_higher, taken_lower, came_here, came_there}
-use Rattle.shared_log.specs.Log.{LogState, log_start, after_put, after_tick, moved_on, lowest_at, shown_at, log_kind, tail_bar, are_versions}
-use Rattle.shared_log.specs.Reading.{read_by, LatestOf, none_of_it, one_of_it, LogTellsThePuts, LogLaw}
+use Rattle.shared_log.specs.Log.{LogState, log_start, after_put, after_tick, moved_on, lowest_at, log_kind, tail_bar, are_versions}
+use Rattle.shared_log.specs.Reading.{read_by, LatestOf, none_of_it, one_of_it, LogLaw}
 use Rattle.shared_log.specs.Coming.{came_append, came_all_same}
 use Rattle.shared_log.specs.Logging.{low_within}
 use Rattle.shared_log.specs.Positioning.{lowest_at_most, lowest_at_reached, lowest_at_less}

@@ -1,5 +1,4 @@
 -- The code's log is always in a good state.
-use Rattle.std.specs.Prelude.{◌≡◌, length}
 use Rattle.std.proofs.Common.{arith}
 use Rattle.std.proofs.lemmas.List.{length-take-le}
 use Rattle.shared_log.specs.Log.{LogGood}

@@ -1,20 +1,17 @@
 -- The smallest store keeps the laws of every store.
-use Rattle.std.specs.Prelude.{◌≡◌, ℕ, ◌<◌, true, ◌⊎◌, Some, None, Option, refl}
+use Rattle.std.specs.Prelude.{◌≡◌, ℕ, ◌<◌, true, ◌⊎◌, Some, None, refl}
 use Rattle.std.proofs.Common.{inl, inr, ⊎_elim, sym, ap, subst, ◌∙◌, arith}
 use Rattle.std.proofs.lemmas.Bool.{cases_eq}
 use Rattle.stamps.specs.Numbers.{keys}
 use Rattle.versions.specs.Joins.{In}
-use Rattle.versions.specs.Versions.{is_version}
 use Rattle.versions.specs.declared.version.Version.{Version}
 use Rattle.causal.specs.Tables.{Table, held_stamp}
 use Rattle.store.specs.Kinds.{Sound, EachStepHasOneOutcome, RefusedKeeps}
-use Rattle.store.specs.Meanings.{Meaning, Lawful, Unaltered, Took, Passed, New}
-use Rattle.store.specs.Puts.{PutAnswer, PutMeans, PutLeaves}
+use Rattle.store.specs.Meanings.{Lawful, Took, Passed, New}
 use Rattle.store.specs.Registers.{is_placed, came_to, all_held}
 use Rattle.store.proofs.Keeping.{in_held, from_held, held_none}
 use Rattle.store.proofs.Making.{put_means, put_keeps, one_put, refused_left}
 use Rattle.store.proofs.Registering.{placed_version, placed_key, taken_stamp, taken_one, came_here, came_there, came_placed}
-use Rattle.store.specs.declared.put_refusal.PutRefusal.{PutRefusal}
 use Rattle.smallest.specs.Smallest.{registers_mean, smallest_kind}
 
 -- what the registers mean is lawful

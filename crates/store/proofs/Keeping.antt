@@ -1,14 +1,14 @@
 -- What is kept: members of lists, the versions in registers, the highest stamp of a key.
-use Rattle.std.proofs.Common.{◌≡◌, ℕ, zero, suc, ◌<◌, ◌≤◌, max, Bool, true, cond, eqb, ◌≢◌, ◌⊎◌, List, [], ◌∷◌, ◌++◌, map, Some, None, Option, sym, refl, ap, ◌∙◌, subst, inl, inr, ⊎_elim, arith}
+use Rattle.std.proofs.Common.{◌≡◌, ℕ, zero, suc, ◌<◌, ◌≤◌, max, cond, eqb, ◌⊎◌, List, [], ◌∷◌, ◌++◌, map, Some, None, Option, sym, refl, ap, ◌∙◌, inl, inr, ⊎_elim, arith}
 use Rattle.std.specs.Option.{option_to_list}
 use Rattle.std.proofs.lemmas.List.{append-nil}
-use Rattle.std.proofs.lemmas.Bool.{cases_eq, cases_lt, cond-true, cond-false, eq-eqb, ne_eqb}
-use Rattle.stamps.specs.Numbers.{keys, sites}
+use Rattle.std.proofs.lemmas.Bool.{cases_eq, cond-true, cond-false, eq-eqb, ne_eqb}
+use Rattle.stamps.specs.Numbers.{keys}
 use Rattle.versions.specs.Joins.{In}
 use Rattle.versions.specs.declared.version.Version.{Version}
-use Rattle.causal.specs.Tables.{Table, held_stamp}
+use Rattle.causal.specs.Tables.{Table}
 use Rattle.causal.proofs.Tabling.{none_some, some_same}
-use Rattle.store.specs.Registers.{Sites, held_below, all_held, held_at_below, all_held_at, highest_of_key}
+use Rattle.store.specs.Registers.{Sites, held_below, all_held, held_at_below, highest_of_key}
 
 -- members of two lists in a row
 pub in_left : {X : Type 0} (x : X) (xs ys : List X) → In x xs → In x (xs ++ ys)

@@ -1,5 +1,5 @@
 -- What every exact make of store owes for its puts, from what an accepted put does.
-use Rattle.std.proofs.Common.{◌≡◌, ℕ, ◌⊎◌, Some, None, Ok, Err, Option, sym, refl, ap, ◌∙◌, subst, arith}
+use Rattle.std.proofs.Common.{◌≡◌, ℕ, Some, None, Ok, Err, Option, sym, refl, ap, ◌∙◌, subst, arith}
 use Rattle.stamps.specs.declared.refusal.Bar.{Bar}
 use Rattle.versions.specs.declared.version.Version.{Version}
 use Rattle.store.specs.Meanings.{Meaning, InPutRange, Unaltered, Took}

@@ -1,5 +1,5 @@
 -- Registers: a place for one version, by the register rule.
-use Rattle.std.specs.Prelude.{◌≡◌, ℕ, zero, suc, max, Bool, true, cond, ◌&&◌, List, [], ◌∷◌, ◌++◌, Some, None, Option, ◌==◌, nat_lt, slice_index_or}
+use Rattle.std.specs.Prelude.{ℕ, zero, suc, max, Bool, true, cond, ◌&&◌, List, [], ◌∷◌, ◌++◌, Some, None, Option, ◌==◌, nat_lt, slice_index_or}
 use Rattle.std.specs.Option.{option_to_list}
 use Rattle.stamps.specs.Numbers.{keys, sites}
 use Rattle.versions.specs.Versions.{is_version}

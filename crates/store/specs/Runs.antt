@@ -1,5 +1,5 @@
 -- Runs: what may be done to a store, in lists, the newest first.
-use Rattle.std.specs.Prelude.{◌≡◌, ℕ, zero, suc, ◌+◌, ◌⊎◌, List, [], ◌∷◌, ◌++◌, Ok, Err}
+use Rattle.std.specs.Prelude.{◌≡◌, ℕ, zero, suc, ◌⊎◌, List, [], ◌∷◌, ◌++◌, Ok, Err}
 use Rattle.versions.specs.declared.version.Version.{Version}
 use Rattle.store.specs.Kinds.{Kind}
 use Rattle.store.specs.Puts.{PutAnswer}

@@ -1,6 +1,5 @@
-use Rattle.std.proofs.Common.{◌≤◌, length, arith}
-use Rattle.shared_log.specs.Holding.{tail_of, position_of}
-use Rattle.shared_log.specs.Log.{lowest_at}
+use Rattle.std.proofs.Common.{arith}
+use Rattle.shared_log.specs.Holding.{position_of}
 use Rattle.shared_log.specs.Positioning.{lowest_at_most}
 use Rattle.shared_log.proofs.entries.Entries.tick.Goals as goal
 

@@ -1,6 +1,5 @@
-use Rattle.std.proofs.Common.{◌≡◌, ℕ, ◌+◌, ◌<◌, ◌≤◌, length, get_or}
+use Rattle.std.proofs.Common.{◌≡◌, ℕ, ◌+◌, ◌<◌, ◌≤◌, get_or}
 use Rattle.versions.specs.declared.version.Version.{Version}
-use Rattle.shared_log.specs.Numbers.{tail_limit}
 use Rattle.shared_log.proofs.tail.Tail.drop_first.Given as goal
 
 -- so many versions have moved down, and those from there on stand as they stood

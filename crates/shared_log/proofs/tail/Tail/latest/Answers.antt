@@ -1,7 +1,7 @@
-use Rattle.std.proofs.Common.{◌≡◌, ◌<◌, ◌≤◌, length, take, ◌∙◌, arith}
+use Rattle.std.proofs.Common.{◌<◌, ◌≤◌, length, take, ◌∙◌, arith}
 use Rattle.std.proofs.lemmas.List.{length-take-le}
 use Rattle.store.specs.Holding.{registered}
-use Rattle.store.specs.Registers.{came_all, came_to}
+use Rattle.store.specs.Registers.{came_all}
 use Rattle.shared_log.specs.Holding.{tail_of}
 use Rattle.shared_log.specs.Coming.{came_more, read_higher, read_lower, read_other}
 use Rattle.shared_log.proofs.tail.Tail.latest.Goals as goal

@@ -1,7 +1,7 @@
-use Rattle.std.proofs.Common.{◌≡◌, ◌<◌, true, Some, Option, sym, ◌∙◌, subst, arith}
+use Rattle.std.proofs.Common.{◌≡◌, true, Some, Option, sym, ◌∙◌, subst, arith}
 use Rattle.std.proofs.lemmas.List.{length-set}
 use Rattle.versions.proofs.Versioning.{parts_of_version}
-use Rattle.causal.specs.Tables.{held_stamp, table_of}
+use Rattle.causal.specs.Tables.{table_of}
 use Rattle.versions.specs.declared.version.Version.{Version}
 use Rattle.store.specs.Registers.{is_placed}
 use Rattle.store.proofs.Registering.{came_set, came_placed}
