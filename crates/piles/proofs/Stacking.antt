@@ -1,10 +1,10 @@
 -- A poll layer over an exact make is exact.
-use Rattle.std.proofs.Common.{◌≡◌, ℕ, Ok, Err, sym, refl, ap, ◌∙◌, subst, arith}
+use Rattle.std.proofs.Common.{◌≡◌, ℕ, Ok, Err, sym, ap, ◌∙◌, arith}
 use Rattle.versions.specs.declared.version.Version.{Version}
 use Rattle.store.specs.Kinds.{Kind, EachStepHasOneOutcome, RefusedKeeps}
 use Rattle.store.specs.Puts.{PutAnswer}
 use Rattle.store.specs.declared.put_refusal.PutRefusal.{PutRefusal}
-use Rattle.poll.specs.Poll.{PollState, PollStored, PollTicked, poll_kind, answer_passed_up, after_put, after_tick}
+use Rattle.poll.specs.Poll.{poll_kind, answer_passed_up, after_put, after_tick}
 use Rattle.piles.specs.Piles.{Exact}
 
 one : (K : Kind) → EachStepHasOneOutcome K → EachStepHasOneOutcome (poll_kind K)
