@@ -12,7 +12,9 @@ use Rattle.store.specs.Puts.{PutAnswer, PutMeans, refused_unfit, refused_barred,
 use Rattle.store.specs.Registers.{is_placed, all_held_at}
 use Rattle.store.proofs.Keeping.{in_left, in_right, in_either, in_held_at, from_held_at, held_at_none}
 use Rattle.store.proofs.Registering.{placed_version, placed_key, placed_some}
+use Rattle.poll.specs.Holding.{layer_of}
 use Rattle.poll.specs.Poll.{PollState, PollGood, PollStored, PollTicked, poll_start, bar_passed_up, passed_up, answer_passed_up, copy_of, after_put, after_copying, after_counting, same_stamps, first_copying, poll_settled, poll_wait, poll_means, poll_kind}
+use Rattle.poll.specs.declared.poll.Poll.{Poll}
 use Rattle.poll.specs.Comparing.{same_from, same_at, same_alike, copy_at, copy_each}
 use Rattle.poll.specs.Ticking.{tick_each}
 use Rattle.poll.specs.Timing.{first_nearer, first_again}
@@ -247,3 +249,14 @@ module _ (K : Kind) (sound : Sound K) where
             rest_waits K (poll_start K below period) new.no_wait
             (λ site key h. sym ((sound.lawful below good).settled_shows_peaks new.no_wait site key h ∙ new.no_peaks key h.1));
       }
+
+-- the code's layer is always in a good state, if the store below is
+pub poll_good : {S : Type 0} (K : Kind) (state : S → K.State) → ((s : S) → K.good (state s)) → (p : Poll S) → PollGood K (layer_of K state p)
+poll_good K state good p =
+    record {
+      below_good = good p.below;
+      placed = p.table.held.placed;
+      countdown_least = p.table.least;
+      countdown_most = p.table.most;
+      period_most = p.table.period.most;
+    }

@@ -4,8 +4,7 @@ ghost use Rattle.store.specs.Meanings.{New};
 ghost use Rattle.poll.specs.Copying.{PollLaw, FirstCopyingLaw};
 ghost use Rattle.poll.specs.Holding.{layer_of};
 ghost use Rattle.poll.specs.Poll.{poll_start, poll_means, poll_kind};
-ghost use Rattle.poll.specs.Layering.{poll_sound};
-ghost use Rattle.std.proofs.Common.{rules};
+ghost use Rattle.poll.specs.Layering.{poll_sound, poll_good};
 
 use crate::period::Period;
 use crate::poll::Poll;
@@ -36,7 +35,7 @@ impl<S: Store> Store for Poll<S> {
 
     ghost sound = { poll_sound S.Store.kind S.Store.sound };
 
-    ghost good = { Prim.search rules };
+    ghost good = { poll_good S.Store.kind S.Store.state S.Store.good };
 
     fn ask(&mut self, site: u32, key: u32) -> Result<Option<Version>, Refusal> {
         check_ask(site, key)?;

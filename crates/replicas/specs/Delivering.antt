@@ -1,7 +1,7 @@
 -- Lists of deliveries: lowered, delivered and removed place by place.
 use Rattle.std.specs.Prelude.{◌≡◌, ℕ, ◌+◌, ◌<◌, ◌≤◌, Bool, true, false, not, ◌&&◌, ◌||◌, List, [], ◌∷◌, ◌++◌, map, length, get_or, take, drop, filter, nat_le, nat_lt, slice_index_or, refl}
 use Rattle.std.proofs.Common.{inl, inr, sym, ap, ap₂, subst, ◌∙◌, add-zero, arith}
-use Rattle.std.specs.List.{AllByRecursion as All}
+use Rattle.std.specs.List.{AllByRecursion}
 use Rattle.std.proofs.lemmas.List.Elements.{filter_more}
 use Rattle.std.proofs.lemmas.List.{get_or-drop, get_or-set_same, take_more_set, map_more, drop-set-lt, drop-drop}
 use Rattle.std.proofs.lemmas.Bool.{and_from, and_parts, or_parts, cond-true, cond-false, not_from_false, ltb-true, leb-true, lt-ltb, le-leb}
@@ -106,13 +106,13 @@ fit_all [] f = refl
 fit_all (x ∷ ds) f = and_from (is_delivery x) (are_deliveries ds) (fit_from x (f x (inl refl))) (fit_all ds (λ d i. f d (inr i)))
 
 -- deliveries are addressed, and lowering leaves where they go
-pub all_addressed : (ds : List Delivery) → ((d : Delivery) → In d ds → Addressed d) → All Addressed ds
+pub all_addressed : (ds : List Delivery) → ((d : Delivery) → In d ds → Addressed d) → AllByRecursion Addressed ds
 all_addressed [] f = tt
 all_addressed (d ∷ ds) f = (f d (inl refl), all_addressed ds (λ x i. f x (inr i)))
 
-pub are_addressed : (ds : List Delivery) → are_deliveries ds ≡ true → All Addressed ds
+pub are_addressed : (ds : List Delivery) → are_deliveries ds ≡ true → AllByRecursion Addressed ds
 are_addressed ds e = all_addressed ds (λ d i. let f = fit_member ds d e i in (f.site, f.version))
 
-pub lowered_addressed : (xs : List Delivery) → All Addressed xs → All Addressed (map lowered xs)
+pub lowered_addressed : (xs : List Delivery) → AllByRecursion Addressed xs → AllByRecursion Addressed (map lowered xs)
 lowered_addressed [] a = tt
 lowered_addressed (x ∷ xs) a = (a.0, lowered_addressed xs a.1)

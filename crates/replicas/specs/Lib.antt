@@ -4,6 +4,7 @@ pub mod Network
 pub mod Numbers
 pub mod Pending
 pub mod Replicas
+pub mod Standing
 pub mod States
 pub mod Soundness
 pub mod Delivering

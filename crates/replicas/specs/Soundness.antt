@@ -1,7 +1,7 @@
 -- Replicas keep the laws of every store.
 use Rattle.std.specs.Prelude.{◌≡◌, ℕ, ◌+◌, ◌-◌, ◌<◌, ◌≤◌, max, true, not, ◌&&◌, ◌⊎◌, List, [], ◌∷◌, ◌++◌, map, length, Some, None, filter, Option, ◌==◌, ◌≢◌, nat_lt, refl}
 use Rattle.std.proofs.Common.{inl, inr, ⊎_elim, sym, ap, subst, ◌∙◌, arith}
-use Rattle.std.specs.List.{AllByRecursion as All}
+use Rattle.std.specs.List.{AllByRecursion}
 use Rattle.std.proofs.lemmas.List.Filters.{length-filter_both}
 use Rattle.std.proofs.lemmas.List.{length-append, length-map}
 use Rattle.std.proofs.lemmas.Bool.{cases_eq, cases_lt, cond-true, cond_both, eqb-true, eqb-false, lt-ltb, and_parts, not-true}
@@ -203,7 +203,7 @@ stay_most (d ∷ ds) =
     (λ l. most_left l ≤ most_left (d ∷ ds) - 1) (λ e. omega (arith, rest)) (λ e. omega (arith, rest))
 
 -- registers keep their places when deliveries come
-delivered_placed : (t : Sites) (ds : List Delivery) → ((s k : ℕ) → is_placed k (t s k) ≡ true) → All Addressed ds → (s k : ℕ) → is_placed k (delivered t ds s k) ≡ true
+delivered_placed : (t : Sites) (ds : List Delivery) → ((s k : ℕ) → is_placed k (t s k) ≡ true) → AllByRecursion Addressed ds → (s k : ℕ) → is_placed k (delivered t ds s k) ≡ true
 delivered_placed t [] p a = p
 delivered_placed t (d ∷ ds) p a = delivered_placed (came_at t d.site d.version) ds (came_at_placed t d.site d.version p a.0.1) a.1
 

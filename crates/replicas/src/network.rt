@@ -1,5 +1,5 @@
 ghost use Rattle.std.specs.Prelude.{◌≡◌, ℕ, ◌+◌, ◌<◌, ◌≤◌, List, ◌++◌, length};
-ghost use Rattle.std.specs.List.{AllByRecursion as All};
+ghost use Rattle.std.specs.List.{AllByRecursion};
 ghost use Rattle.store.specs.Holding.{registered_at};
 ghost use Rattle.store.specs.Meanings.{InPutRange};
 ghost use Rattle.replicas.specs.Lines.{times_of};
@@ -65,7 +65,7 @@ impl Network {
 
     // One tick: each delivery has one tick less; those at 0 are delivered in list order and removed.
     pub(crate) fn tick(&mut self)
-        requires { All Addressed (pending self.old.deliveries) }
+        requires { AllByRecursion Addressed (pending self.old.deliveries) }
         ensures { (ts : List ℕ) → network_state self.new ts ≡ after_tick (network_state self.old ts) }
     {
         if self.deliveries.lower() {

@@ -1,5 +1,5 @@
 ghost use Rattle.std.specs.Prelude.{◌≡◌, ℕ, ◌<◌, not, [], ◌∷◌, ◌++◌, map, length, Decides, filter, slice_index_or};
-ghost use Rattle.std.specs.List.{AllByRecursion as All};
+ghost use Rattle.std.specs.List.{AllByRecursion};
 ghost use Rattle.store.specs.Holding.{registered_at};
 ghost use Rattle.replicas.specs.Numbers.{delivery_limit};
 ghost use Rattle.replicas.specs.Pending.{pending, no_delivery, lowered_at, any_come};
@@ -89,7 +89,7 @@ impl Deliveries {
 
     // Delivers what has come into the registers, in list order.
     pub(crate) fn deliver(&self, registers: &mut SiteRegisters)
-        requires { All Addressed (pending self.now) }
+        requires { AllByRecursion Addressed (pending self.now) }
         ensures { (s k : ℕ) → registered_at registers.new s k
             ≡ delivered (registered_at registers.old) (filter has_come (pending self.now)) s k }
     {

@@ -6,7 +6,7 @@ ghost use Rattle.replicas.specs.Lines.{times_of};
 ghost use Rattle.replicas.specs.Replicas.{replicas_kind, replicas_mean, replicas_start};
 ghost use Rattle.replicas.specs.States.{replicas_state};
 ghost use Rattle.replicas.specs.Soundness.{replicas_sound};
-ghost use Rattle.std.proofs.Common.{rules, arith};
+ghost use Rattle.replicas.specs.Standing.{replicas_good};
 
 use crate::line_times::LineTimes;
 use crate::network::Network;
@@ -37,7 +37,7 @@ impl Store for Replicas {
 
     ghost sound = { replicas_sound };
 
-    ghost good = { first_of (Prim.search rules, Prim.grind (arith, Self.row.coded.inj)) };
+    ghost good = { replicas_good };
 
     fn ask(&mut self, site: u32, key: u32) -> Result<Option<Version>, Refusal> {
         check_ask(site, key)?;

@@ -12,7 +12,8 @@ use Rattle.store.specs.Registers.{is_placed, came_to, all_held}
 use Rattle.store.proofs.Keeping.{in_held, from_held, held_none}
 use Rattle.store.proofs.Making.{put_means, put_keeps, one_put, refused_left}
 use Rattle.store.proofs.Registering.{placed_version, placed_key, taken_stamp, taken_one, came_here, came_there, came_placed}
-use Rattle.smallest.specs.Smallest.{registers_mean, smallest_kind}
+use Rattle.smallest.specs.Smallest.{registers_mean, smallest_kind, smallest_state}
+use Rattle.smallest.specs.declared.smallest.Smallest.{Smallest}
 
 -- what the registers mean is lawful
 lawful : (t : Table) → ((k : ℕ) → is_placed k (t k) ≡ true) → Lawful (registers_mean t)
@@ -59,6 +60,10 @@ smallest_sound =
       tick_keeps = λ s t g e. subst (λ (x : Table). (k : ℕ) → is_placed k (x k) ≡ true) (sym e) g;
       tick_means = λ s t g e. passed s t e;
     }
+
+-- the code's registers hold at each key a version of it, or none
+pub smallest_good : (s : Smallest) (k : ℕ) → is_placed k (smallest_state s k) ≡ true
+smallest_good s k = s.registers.placed k
 
 pub smallest_one : EachStepHasOneOutcome smallest_kind
 smallest_one =

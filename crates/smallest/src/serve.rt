@@ -2,8 +2,7 @@ ghost use Rattle.std.specs.Prelude.{◌≡◌, ℕ, None};
 ghost use Rattle.store.specs.Kinds.{EachStepHasOneOutcome, RefusedKeeps};
 ghost use Rattle.store.specs.Meanings.{New};
 ghost use Rattle.smallest.specs.Smallest.{registers_mean, smallest_kind, smallest_state};
-ghost use Rattle.smallest.specs.Smallness.{smallest_sound};
-ghost use Rattle.std.proofs.Common.{rules};
+ghost use Rattle.smallest.specs.Smallness.{smallest_sound, smallest_good};
 
 use crate::smallest::Smallest;
 use stamps::refusal::Refusal;
@@ -31,7 +30,7 @@ impl Store for Smallest {
 
     ghost sound = { smallest_sound };
 
-    ghost good = { Prim.search rules };
+    ghost good = { smallest_good };
 
     fn ask(&mut self, site: u32, key: u32) -> Result<Option<Version>, Refusal> {
         check_ask(site, key)?;

@@ -1,5 +1,5 @@
 use Rattle.std.proofs.Common.{◌≡◌, false, map, sym, ap, ◌∙◌, subst}
-use Rattle.std.specs.List.{AllByRecursion as All}
+use Rattle.std.specs.List.{AllByRecursion}
 use Rattle.store.specs.Holding.{registered_at}
 use Rattle.replicas.specs.Network.{carries}
 use Rattle.replicas.specs.Pending.{any_come}
@@ -8,7 +8,7 @@ use Rattle.replicas.specs.Delivering.{lowered_addressed, none_come, none_removed
 use Rattle.replicas.proofs.network.Network.tick.Goals as goal
 
 pub deliver-requires : goal.deliver-requires
-deliver-requires c = subst (All Addressed) (sym c.lower.ensures.lowered) (lowered_addressed (carries c.args.self.now) c.requires)
+deliver-requires c = subst (AllByRecursion Addressed) (sym c.lower.ensures.lowered) (lowered_addressed (carries c.args.self.now) c.requires)
 
 pub returns-else-lower : goal.returns-else-lower
 returns-else-lower c ts =
