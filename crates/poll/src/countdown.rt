@@ -57,7 +57,8 @@ impl Snapshot {
 
     // Writes what was copied from a site and key.
     pub(crate) fn write(&mut self, site: u32, key: u32, found: &Option<Version>)
-        requires { (InAskRange site key) × (is_placed key found.now ≡ true) }
+        requires in_range { InAskRange site key }
+        requires placed { is_placed key found.now ≡ true }
         ensures written { (s k : ℕ) → registered_at self.new.held s k ≡ written_at (registered_at self.old.held) site key found.now s k }
         ensures lasting { self.new.period.ticks ≡ self.old.period.ticks }
         ensures counted { self.new.countdown ≡ self.old.countdown }

@@ -23,7 +23,8 @@ impl LineTimes {
 
     // The line time between two sites; 0 from a site to itself.
     pub(crate) fn between(&self, a: u32, b: u32) -> u32
-        requires { (a < sites) × (b < sites) }
+        requires from { a < sites }
+        requires to { b < sites }
         ensures { result ≡ line_time (times_of self.now) a b }
     {
         if a < b {
@@ -38,8 +39,10 @@ impl LineTimes {
 
 // The place of a pair of sites, lower site first.
 fn pair_place(low: u32, high: u32) -> usize
-    requires { (low < high) × (high < sites) }
-    ensures { (result ≡ pair_place low high) × (result < pairs) }
+    requires in_order { low < high }
+    requires within { high < sites }
+    ensures place { result ≡ pair_place low high }
+    ensures within { result < pairs }
 {
     match low {
         0 => high as usize - 1,

@@ -36,7 +36,8 @@ impl Network {
     // Sends a version from a site to every site upward: into the register now where the line time is 0, as it
     // is at the site itself, else by a delivery.
     pub(crate) fn put(&mut self, times: &LineTimes, site: u32, version: &Version)
-        requires { (InPutRange site version.now) × (length (pending self.old.deliveries) + places_wanted ≤ delivery_limit) }
+        requires in_range { InPutRange site version.now }
+        requires room { length (pending self.old.deliveries) + places_wanted ≤ delivery_limit }
         ensures { network_state self.new (times_of times.now)
             ≡ after_put (network_state self.old (times_of times.now)) site version.now }
     {
@@ -47,7 +48,8 @@ impl Network {
 
     // Sends a version to a site: into its register now where no tick is left, else by a delivery.
     fn send(&mut self, to: u32, ticks: u32, version: &Version)
-        requires { (InPutRange to version.now) × ((0 < ticks → length (pending self.old.deliveries) < delivery_limit)) }
+        requires in_range { InPutRange to version.now }
+        requires room { 0 < ticks → length (pending self.old.deliveries) < delivery_limit }
         ensures now { (s k : ℕ) → registered_at self.new.registers s k ≡ sent_now ticks to version.now (registered_at self.old.registers) s k }
         ensures later { pending self.new.deliveries ≡ pending self.old.deliveries ++ sent_later ticks to version.now }
     {

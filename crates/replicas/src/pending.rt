@@ -100,7 +100,8 @@ impl Deliveries {
 
     // Delivers what is at a place into its register, if it has come.
     fn deliver_one(&self, i: usize, registers: &mut SiteRegisters)
-        requires { (i < self.now.len) × (Addressed (slice_index_or self.now.places i no_delivery)) }
+        requires within { i < self.now.len }
+        requires addressed { Addressed (slice_index_or self.now.places i no_delivery) }
         ensures { (s k : ℕ) → registered_at registers.new s k
             ≡ delivered (registered_at registers.old) (filter has_come (slice_index_or self.now.places i no_delivery ∷ [])) s k }
     {

@@ -49,7 +49,8 @@ impl Tail {
 
     // Adds a version at the end.
     pub(crate) fn add(&mut self, version: &Version)
-        requires { (is_version version.now ≡ true) × (length (tail_of self.old) < tail_limit) }
+        requires version { is_version version.now ≡ true }
+        requires room { length (tail_of self.old) < tail_limit }
         ensures { tail_of self.new ≡ tail_of self.old ++ version.now ∷ [] }
     {
         self.versions[self.len] = *version;

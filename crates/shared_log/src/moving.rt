@@ -29,7 +29,8 @@ impl Positions {
 
     // Moves each position on by its site's stride, not past the end.
     pub(crate) fn move_on(&mut self, strides: &Strides, end: usize)
-        requires { (((site : ℕ) → position_of self.old site ≤ end)) × (end ≤ tail_limit) }
+        requires within { (site : ℕ) → position_of self.old site ≤ end }
+        requires few { end ≤ tail_limit }
         ensures { (site : ℕ) → position_of self.new site ≡ min (position_of self.old site + stride_of strides.now site) end }
     {
         for site in 0..SITES {

@@ -22,7 +22,8 @@ impl Tail {
 
     // What the register of a key holds once the first versions, so many, have come to it.
     pub(crate) fn latest(&self, base: &Registers, count: usize, key: u32) -> Option<Version>
-        requires { (count ≤ length (tail_of self.now)) × (key < keys) }
+        requires within { count ≤ length (tail_of self.now) }
+        requires keyed { key < keys }
         ensures { result ≡ came_all (registered base.now) (take count (tail_of self.now)) key }
     {
         let mut found = base.read(key);

@@ -26,7 +26,8 @@ impl Entries {
 
     // What is shown at a site and key.
     pub(crate) fn shown(&self, site: u32, key: u32) -> Option<Version>
-        requires { (InAskRange site key) × (((s : ℕ) → position_of self.now.positions s ≤ length (tail_of self.now.tail))) }
+        requires in_range { InAskRange site key }
+        requires within { (s : ℕ) → position_of self.now.positions s ≤ length (tail_of self.now.tail) }
         ensures { (strides : ℕ → ℕ) → result ≡ shown_at (entries_state self.now strides) site key }
     {
         self.tail.latest(&self.base, self.positions.at(site), key)
@@ -34,7 +35,8 @@ impl Entries {
 
     // Puts a version at the tail's end.
     pub(crate) fn put(&mut self, version: &Version)
-        requires { (is_version version.now ≡ true) × (length (tail_of self.old.tail) < tail_limit) }
+        requires version { is_version version.now ≡ true }
+        requires room { length (tail_of self.old.tail) < tail_limit }
         ensures { (strides : ℕ → ℕ) → entries_state self.new strides ≡ after_put (entries_state self.old strides) version.now }
     {
         self.tail.add(version);

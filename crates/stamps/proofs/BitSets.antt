@@ -37,7 +37,7 @@ bit_shl w j k l = ap (λ (x : ℕ). bit x k) (one_shl j w l) ∙ bit_power j k
 
 -- an operation that works on each digit apart, as the test t does
 module _ (op : ℕ → ℕ → ℕ) (t : Bool → Bool → Bool)
-    (op_shr : (a b k : ℕ) → op a b / 2 ^ k ≡ op (a / 2 ^ k) (b / 2 ^ k)) (op-mod : (a b k : ℕ) → op a b % 2 ^ k ≡ op (a % 2 ^ k) (b % 2 ^ k))
+    (op_shr : (a b k : ℕ) → op a b / 2 ^ k ≡ op (a / 2 ^ k) (b / 2 ^ k)) (op_mod : (a b k : ℕ) → op a b % 2 ^ k ≡ op (a % 2 ^ k) (b % 2 ^ k))
     (none : eqb (op 0 0) 1 ≡ t false false) (right : eqb (op 0 1) 1 ≡ t false true)
     (left : eqb (op 1 0) 1 ≡ t true false) (both : eqb (op 1 1) 1 ≡ t true true) where
   digit_op : (x y : ℕ) → x < 2 → y < 2 → eqb (op x y) 1 ≡ t (eqb x 1) (eqb y 1)
@@ -51,7 +51,7 @@ module _ (op : ℕ → ℕ → ℕ) (t : Bool → Bool → Bool)
 
   bit_op : (a b k : ℕ) → bit (op a b) k ≡ t (bit a k) (bit b k)
   bit_op a b k =
-      ap (λ (x : ℕ). eqb (x % 2) 1) (op_shr a b k) ∙ ap (λ (x : ℕ). eqb x 1) (op-mod (a / 2 ^ k) (b / 2 ^ k) 1)
+      ap (λ (x : ℕ). eqb (x % 2) 1) (op_shr a b k) ∙ ap (λ (x : ℕ). eqb x 1) (op_mod (a / 2 ^ k) (b / 2 ^ k) 1)
       ∙ digit_op (a / 2 ^ k % 2) (b / 2 ^ k % 2) (omega arith) (omega arith)
 
 pub bit_of_and : (a b k : ℕ) → bit (bit_and a b) k ≡ (bit a k && bit b k)

@@ -36,7 +36,8 @@ impl KeySet {
 
     // Strikes a key out of the set, and says whether it was there.
     pub fn remove(&mut self, key: u32) -> bool
-        ensures { (result ≡ has self.old key) × (((k : ℕ) → has self.new k ≡ (not (k == key) && has self.old k))) }
+        ensures found { result ≡ has self.old key }
+        ensures struck { (k : ℕ) → has self.new k ≡ (not (k == key) && has self.old k) }
     {
         if !self.contains(key) {
             return false;
@@ -47,7 +48,8 @@ impl KeySet {
 
     // Whether a key is in the set; no key out of range is.
     pub fn contains(self, key: u32) -> bool
-        ensures { (result ≡ has self key) × ((has self key ≡ true → key < keys)) }
+        ensures found { result ≡ has self key }
+        ensures within { has self key ≡ true → key < keys }
     {
         key < KEYS && (self.bits >> key) % 2 == 1
     }
@@ -91,7 +93,8 @@ impl KeySet {
 
     // The set with one of its keys struck out.
     fn without(self, key: u32) -> KeySet
-        requires { (key < keys) × (has self key ≡ true) }
+        requires within { key < keys }
+        requires there { has self key ≡ true }
         ensures { (k : ℕ) → has result k ≡ (not (k == key) && has self k) }
     {
         KeySet {

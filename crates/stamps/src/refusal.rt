@@ -55,14 +55,16 @@ pub struct Bar {
 impl Bar {
     // The bar at the store that refuses.
     pub fn new(refusal: Refusal) -> Bar
-        ensures { (result.refusal ≡ refusal) × (result.depth ≡ 0) }
+        ensures refusal { result.refusal ≡ refusal }
+        ensures depth { result.depth ≡ 0 }
     {
         Bar { refusal, depth: 0 }
     }
 
     // The bar as the layer above gives it.
     pub fn passed_up(self) -> Bar
-        ensures { (result.refusal ≡ self.refusal) × (result.depth ≡ min depth_limit (self.depth + 1)) }
+        ensures refusal { result.refusal ≡ self.refusal }
+        ensures depth { result.depth ≡ min depth_limit (self.depth + 1) }
     {
         let depth = if self.depth < DEPTH_LIMIT {
             self.depth + 1

@@ -43,7 +43,8 @@ impl SiteRegisters {
 
     // Writes what the register of a site and key holds, whatever it held.
     pub fn write(&mut self, site: u32, key: u32, found: &Option<Version>)
-        requires { (InAskRange site key) × (is_placed key found.now ≡ true) }
+        requires in_range { InAskRange site key }
+        requires placed { is_placed key found.now ≡ true }
         ensures { (s k : ℕ) → registered_at self.new s k ≡ written_at (registered_at self.old) site key found.now s k }
     {
         let place = key as usize;

@@ -25,10 +25,10 @@ loop-k-preserved c =
     elim c.if-contains.branch [
       | then-contains w ↦
           ap (λ (s : Stamp). s.number) w.stamps-is ∙ w.stamp_of.ensures
-          ∙ sym (ap held_stamp (cond-true (chosen i) (answers i) (old i) (sym c.contains.ensures.0 ∙ w.if-contains.true)))
+          ∙ sym (ap held_stamp (cond-true (chosen i) (answers i) (old i) (sym c.contains.ensures.found ∙ w.if-contains.true)))
       | else-contains w ↦
           ap (λ (s : Stamp). s.number) w.stamps-is ∙ face_read cut.face old cut.faced i c.loop-k-test.true
-          ∙ sym (ap held_stamp (cond-false (chosen i) (answers i) (old i) (sym c.contains.ensures.0 ∙ w.if-contains.false)))
+          ∙ sym (ap held_stamp (cond-false (chosen i) (answers i) (old i) (sym c.contains.ensures.found ∙ w.if-contains.false)))
     ] in (
       length-set xs i new ∙ c.loop-k.invariant.0,
       below_more _ _ (λ k h. ap (λ (s : Stamp). s.number) (get_or-set_other xs i k new (stamp 0) (omega arith)) ∙ c.loop-k.invariant.1 k h)

@@ -7,7 +7,7 @@ use Rattle.causal.proofs.cut.Cut.fitting_keys.Goals as goal
 
 pub loop-k-smaller : goal.loop-k-smaller
 loop-k-smaller c =
-    count_struck keys (has c.loop-k.fitting) (has c.remove.new.self) c.in-Some.k c.remove.ensures.1 c.in-Some.ensures.0 c.in-Some.ensures.1
+    count_struck keys (has c.loop-k.fitting) (has c.remove.new.self) c.in-Some.k c.remove.ensures.struck c.in-Some.ensures.0 c.in-Some.ensures.1
 
 pub loop-k-preserved : goal.loop-k-preserved
 loop-k-preserved c =
@@ -15,8 +15,8 @@ loop-k-preserved c =
     let answers = answered c.args.answers.now in
     let all = has c.loop-k.fitting in
     let less = has c.remove.new.self in (
-      strike_newer old answers all less c.in-Some.k c.remove.ensures.1 c.loop-k.invariant.0,
-      strike_contained old answers all less c.in-Some.k c.remove.ensures.1 c.loop-k.invariant.0 c.loop-k.invariant.1 c.in-Some.ensures.2,
+      strike_newer old answers all less c.in-Some.k c.remove.ensures.struck c.loop-k.invariant.0,
+      strike_contained old answers all less c.in-Some.k c.remove.ensures.struck c.loop-k.invariant.0 c.loop-k.invariant.1 c.in-Some.ensures.2,
     )
 
 pub returns : goal.returns

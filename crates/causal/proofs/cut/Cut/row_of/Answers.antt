@@ -57,13 +57,13 @@ loop-k-preserved c =
     ] in (
       suc key,
       omega (arith, lowest.0),
-      (λ k. c.remove.ensures.1 k ∙ ap (λ (b : Bool). not (eqb k key) && b) (is-left k) ∙ after from key k (sale k) low (none k)),
+      (λ k. c.remove.ensures.struck k ∙ ap (λ (b : Bool). not (eqb k key) && b) (is-left k) ∙ after from key k (sale k) low (none k)),
       joined ∙ ap (λ (r : Row). joined_from joined_rows r (map reach (option_to_list (t key)))) before ∙ sym (row_more key t sale here.1),
     )
 
 pub loop-k-smaller : goal.loop-k-smaller
 loop-k-smaller c =
-    count_struck keys (has c.loop-k.left) (has c.remove.new.self) c.in-Some.k c.remove.ensures.1 c.in-Some.ensures.0 c.in-Some.ensures.1
+    count_struck keys (has c.loop-k.left) (has c.remove.new.self) c.in-Some.k c.remove.ensures.struck c.in-Some.ensures.0 c.in-Some.ensures.1
 
 pub returns : goal.returns
 returns c =

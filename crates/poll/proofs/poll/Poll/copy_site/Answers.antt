@@ -10,4 +10,4 @@ write-requires g c =
     let below = g.S.Store.state store in
     let within : InAskRange c.args.site c.loop-key.key = (c.requires, c.loop-key-test.true) in
     let shown = shown_placed (g.S.Store.kind.means below) (g.met.S.Store.sound.lawful below (g.met.S.Store.good store)) c.args.site c.loop-key.key within in
-    (within, ap (is_placed c.loop-key.key) c.shown_below-found.ensures.shown ∙ shown)
+    record { in_range = within; placed = ap (is_placed c.loop-key.key) c.shown_below-found.ensures.shown ∙ shown }

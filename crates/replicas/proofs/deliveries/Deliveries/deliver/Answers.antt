@@ -12,11 +12,13 @@ use Rattle.replicas.proofs.deliveries.Deliveries.deliver.Goals as goal
 pub deliver_one-requires : goal.deliver_one-requires
 deliver_one-requires c =
     let d = c.args.self.now in
-    let i = c.loop-i.i in (
-      c.loop-i-test.true,
-      subst Addressed (get_or-take d.len d.places i no_delivery c.loop-i-test.true)
-          (All-get_or Addressed (pending d) i no_delivery (omega (arith, c.loop-i-test.true, length-take d.len d.places, d.sized, d.fits)) c.requires),
-    )
+    let i = c.loop-i.i in
+    record {
+      within = c.loop-i-test.true;
+      addressed =
+          subst Addressed (get_or-take d.len d.places i no_delivery c.loop-i-test.true)
+          (All-get_or Addressed (pending d) i no_delivery (omega (arith, c.loop-i-test.true, length-take d.len d.places, d.sized, d.fits)) c.requires);
+    }
 
 pub loop-i-preserved : goal.loop-i-preserved
 loop-i-preserved c s k =

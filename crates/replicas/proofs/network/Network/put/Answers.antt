@@ -25,15 +25,16 @@ send-requires c =
     let old = carries c.args.self.now in
     let ts = times_of c.args.times.now in
     let v = c.args.version.now in
-    let n = c.loop-to.to in (
-      (c.loop-to-test.true, c.requires.0.1),
-      λ far. omega (
+    let n = c.loop-to.to in
+    record {
+      in_range = (c.loop-to-test.true, c.requires.in_range.1);
+      room = λ far. omega (
         arith,
         ap length c.loop-to.invariant.1,
         length-append old (sent_below n ts c.args.site v),
-        sent_fits n ts c.args.site v (length old) c.loop-to-test.true c.requires.0.0 c.requires.1 (omega (arith, far, c.between.ensures)),
-      ),
-    )
+        sent_fits n ts c.args.site v (length old) c.loop-to-test.true c.requires.in_range.0 c.requires.room (omega (arith, far, c.between.ensures)),
+      );
+    }
 
 pub loop-to-preserved : goal.loop-to-preserved
 loop-to-preserved c =

@@ -12,7 +12,7 @@ loop-place-preserved c =
     let t = c.args.self.now in
     let key = c.args.key in
     let fits : t.len ≤ length t.versions = omega (arith, t.fits, t.sized) in
-    let l : c.loop-place.place < t.len = omega (arith, c.requires.0, c.loop-place-test.true, length-take-le t.len t.versions fits) in
+    let l : c.loop-place.place < t.len = omega (arith, c.requires.within, c.loop-place-test.true, length-take-le t.len t.versions fits) in
     let before = came_all (registered c.args.base.now) (take c.loop-place.place (tail_of t)) in
     let next = came_more (registered c.args.base.now) t.versions t.len c.loop-place.place _ key l fits in
     elim c.if-version-key.branch [

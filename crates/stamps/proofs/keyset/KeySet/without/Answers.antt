@@ -18,5 +18,5 @@ unfolding has
 returns c k =
     let bits = c.args.self.bits in
     let key = c.args.key in
-    bit_of_xor bits (1 * 2 ^ key % 2 ^ 32) k ∙ ap (xor (bit bits k)) (bit_shl 32 key k c.requires.0)
-    ∙ strikes (bit bits k) (eqb k key) (λ e. ap (bit bits) (eqb-true k key e) ∙ c.requires.1)
+    bit_of_xor bits (1 * 2 ^ key % 2 ^ 32) k ∙ ap (xor (bit bits k)) (bit_shl 32 key k c.requires.within)
+    ∙ strikes (bit bits k) (eqb k key) (λ e. ap (bit bits) (eqb-true k key e) ∙ c.requires.there)

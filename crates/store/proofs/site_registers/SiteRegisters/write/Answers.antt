@@ -11,14 +11,14 @@ invariant_of-self c =
     let site = c.args.site in
     let key = c.args.key in
     let x = c.args.found.now in
-    let after = site_written r.held site key x (omega (arith, c.requires.0.0, r.rows)) (omega (arith, c.requires.0.1, r.sized site c.requires.0.0)) in
+    let after = site_written r.held site key x (omega (arith, c.requires.in_range.0, r.rows)) (omega (arith, c.requires.in_range.1, r.sized site c.requires.in_range.0)) in
     record {
       rows = length-set r.held site _ ∙ r.rows;
-      sized = site_set_size r.held site key x (omega (arith, c.requires.0.0, r.rows)) r.sized;
-      placed = λ s k. subst (λ (o : Option Version). is_placed k o ≡ true) (sym (after s k)) (written_placed (sites_of r.held) site key x c.requires.1 r.placed s k);
+      sized = site_set_size r.held site key x (omega (arith, c.requires.in_range.0, r.rows)) r.sized;
+      placed = λ s k. subst (λ (o : Option Version). is_placed k o ≡ true) (sym (after s k)) (written_placed (sites_of r.held) site key x c.requires.placed r.placed s k);
     }
 
 pub returns : goal.returns
 returns c =
     let r = c.args.self.now in
-    site_written r.held c.args.site c.args.key c.args.found.now (omega (arith, c.requires.0.0, r.rows)) (omega (arith, c.requires.0.1, r.sized c.args.site c.requires.0.0))
+    site_written r.held c.args.site c.args.key c.args.found.now (omega (arith, c.requires.in_range.0, r.rows)) (omega (arith, c.requires.in_range.1, r.sized c.args.site c.requires.in_range.0))
