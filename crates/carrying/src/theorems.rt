@@ -5,8 +5,8 @@ use causal::theorems::{
     withheld_exactly_when_none_contains_it, worked_facts,
 };
 use piles::theorems::piles_are_exact;
-use poll::serve::{first_copying_is_the_first, poll_shows_the_last_copy};
-use replicas::lines::pairs_in_order;
+use poll::theorems::{first_copying_is_the_first, poll_shows_the_last_copy};
+use replicas::line_times::pairs_in_order;
 use replicas::replicas::Replicas;
 use replicas::serve::registers_hold_the_highest;
 use shared_log::log::Log;

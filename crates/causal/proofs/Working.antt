@@ -1,14 +1,13 @@
 -- The worked facts, by computation.
-use Rattle.std.proofs.Common.{◌≡◌, ℕ, ◌<◌, ◌≤◌, cond, eqb, None, refl, ap, ◌∙◌, ⊎_elim, le_refl, arith}
-use Rattle.std.proofs.lemmas.Bool.{cases_eq, cond-false, ne_eqb}
-use Rattle.stamps.specs.Numbers.{keys}
+use Rattle.std.proofs.Common.{◌≤◌, cond, eqb, None, refl, le_refl, arith}
+use Rattle.std.proofs.lemmas.Bool.Decides.{nat_tests}
 use Rattle.stamps.specs.Stamps.{stamp_of, counter_of, terminal_of}
 use Rattle.stamps.specs.declared.value.Value.{Value}
 use Rattle.versions.specs.Rows.{stamp_at, row_of, Covers}
 use Rattle.versions.specs.Rowing.{stamp_at_row, stamp_at_zeros, covers_by_keys}
 use Rattle.causal.specs.Tables.{face_of, Causal}
-use Rattle.causal.specs.Worked.{WorkedFacts, row_at5, version16, version19, alone, together}
-use Rattle.causal.proofs.Tabling.{none_some, held_with}
+use Rattle.causal.specs.Worked.{WorkedFacts, row_at5, version16, alone, together}
+use Rattle.causal.proofs.Tabling.{none_some, stamp_at_face}
 
 -- the empty table is causal
 empty_causal : Causal (λ k. None)
@@ -19,22 +18,15 @@ alone_not_causal : (value : Value) → Causal (alone value) → ⊥
 unfolding stamp_at row_of
 alone_not_causal value causal = let h : 11 ≤ 0 = causal 6 (version16 value) refl 5 in omega arith
 
--- the face of both covers the row of version 16, and the empty row of version 19
+-- the face of both covers the row of version 16
 covers_16 : (value : Value) → Covers (face_of (together value)) (row_at5 11)
-unfolding stamp_at row_of
-covers_16 value = covers_by_keys (face_of (together value)) (row_at5 11) (λ k h. ⊎_elim (at_5 k h) (elsewhere k h) (cases_eq k 5))
-  where
-    at_5 : (k : ℕ) → k < keys → k ≡ 5 → stamp_at (row_at5 11) k ≤ stamp_at (face_of (together value)) k
-    at_5 k h e = omega (arith, ap (stamp_at (row_at5 11)) e, ap (stamp_at (face_of (together value))) e)
+covers_16 value =
+    covers_by_keys (face_of (together value)) (row_at5 11)
+    (λ k h. let row = stamp_at_row (λ j. cond (eqb j 5) 11 0) k h in let face = stamp_at_face (together value) k h in grind (arith, nat_tests))
 
-    elsewhere : (k : ℕ) → k < keys → (k ≡ 5 → ⊥) → stamp_at (row_at5 11) k ≤ stamp_at (face_of (together value)) k
-    elsewhere k h ne = omega (arith, stamp_at_row (λ j. cond (eqb j 5) 11 0) k h ∙ cond-false (eqb k 5) 11 0 (ne_eqb k 5 ne))
-
+-- and the empty row of version 19
 together_causal : (value : Value) → Causal (together value)
-together_causal value =
-    held_with (λ k v. Covers (face_of (together value)) v.row) (alone value) (together value) 5 (version19 value) (λ k. refl)
-    (λ j. omega (arith, stamp_at_zeros j))
-    (held_with (λ k v. Covers (face_of (together value)) v.row) (λ k. None) (alone value) 6 (version16 value) (λ k. refl) (covers_16 value) (λ k v e. absurd (none_some v e)))
+together_causal value k v e j = let covered = covers_16 value j in let zero = stamp_at_zeros j in grind (arith, nat_tests)
 
 pub worked_facts : (value : Value) → WorkedFacts value
 unfolding stamp_of counter_of terminal_of stamp_at row_of

@@ -1,4 +1,5 @@
 pub mod Tables
+pub mod Held
 pub mod Holding
 pub mod Choosing
 pub mod Posting

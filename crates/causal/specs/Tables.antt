@@ -30,6 +30,10 @@ HoldsVersions t = (k : ℕ) (v : Version) → t k ≡ Some v → is_version v �
 abbrev pub Keyed : Table → Type 0
 Keyed t = (k : ℕ) (v : Version) → t k ≡ Some v → v.key ≡ k
 
+-- what may stand at a key: a version of that key, or none
+abbrev pub IsPlaced : ℕ → Option Version → Type 0
+IsPlaced k o = (v : Version) → o ≡ Some v → (is_version v ≡ true) × (v.key ≡ k)
+
 -- a face covers what is held at a key when it covers the row of the version there, if any
 abbrev pub CoversHeld : Row → Option Version → Type 0
 CoversHeld face held = (v : Version) → held ≡ Some v → Covers face v.row

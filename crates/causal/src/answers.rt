@@ -1,15 +1,44 @@
-ghost use Rattle.std.specs.Prelude.{◌≡◌, length};
-ghost use Rattle.stamps.specs.Numbers.{keys};
-ghost use Rattle.causal.specs.Tables.{table_of, HoldsVersions, Keyed};
-
-use stamps::limits::PLACES;
+use crate::table::VersionTable;
+use stamps::refusal::Refusal;
+use versions::valid::ValidVersion;
 use versions::version::Version;
 
 // What a store answered at some keys: at each key a version of that key, or none.
 #[derive(Clone, Copy)]
 pub struct Answers {
-    pub(crate) given: [Option<Version>; PLACES],
-    ghost sized: { length given ≡ keys },
-    ghost versions: { HoldsVersions (table_of given) },
-    ghost keyed: { Keyed (table_of given) },
+    pub(crate) given: VersionTable,
+}
+
+impl Answers {
+    ghost use Rattle.std.specs.Prelude.{◌≡◌, ℕ, true, None, MatchResult};
+    ghost use Rattle.versions.specs.Versions.{is_version};
+    ghost use Rattle.stamps.specs.declared.refusal.Refusal.TheVariants.{OutOfRange};
+    ghost use Rattle.causal.specs.Tables.{with_version};
+    ghost use Rattle.causal.specs.Holding.{answered};
+
+    // No answers.
+    pub fn new() -> Answers
+        ensures { (k : ℕ) → answered result k ≡ None }
+    {
+        Answers {
+            given: VersionTable::new(),
+        }
+    }
+
+    // Notes the answer at a key, in place of an earlier one there; a record that is no version of that key
+    // is refused 14, and the answers stay.
+    pub fn note(&mut self, key: u32, version: &Version) -> Result<(), Refusal>
+        ensures { MatchResult result
+            (λ _. (is_version version.now ≡ true) × (version.now.key ≡ key)
+            × ((k : ℕ) → answered self.new k ≡ with_version (answered self.old) key version.now k))
+            (λ e. (e ≡ OutOfRange) × ((is_version version.now ≡ true) × (version.now.key ≡ key) → ⊥)
+            × (self.new ≡ self.old)) }
+    {
+        let valid = ValidVersion::try_from(*version)?;
+        if version.key != key {
+            return Err(Refusal::OutOfRange);
+        }
+        self.given.put(&valid);
+        Ok(())
+    }
 }

@@ -1,4 +1,4 @@
-ghost use Rattle.std.specs.Prelude.{◌≡◌, ℕ, ◌<◌, true, Decides, MatchOption};
+ghost use Rattle.std.specs.Prelude.{◌≡◌, ℕ, ◌<◌, true, ◌↔◌, IsTrue, MatchOption};
 ghost use Rattle.stamps.specs.KeySets.{has};
 ghost use Rattle.stamps.specs.Numbers.{keys};
 ghost use Rattle.causal.specs.Tables.{held_stamp, face_of, CoversHeld, NoStampFalls};
@@ -7,15 +7,17 @@ ghost use Rattle.causal.specs.Choosing.{is_newer, put_in, Fits, LargestFit, Chos
 
 use crate::answers::Answers;
 use crate::cut::Cut;
+use crate::table::some_of;
+use stamps::below::Key;
 use stamps::keyset::KeySet;
-use stamps::limits::{KEYS, PLACES};
 use stamps::stamp::Stamp;
 use versions::row::Row;
 use versions::version::Version;
 
 impl Cut {
     // Chooses: of the answers that are newer than the cut, puts in the largest set that leaves it causal, and
-    // says how many keys moved and how many newer answers were withheld.
+    // says how many keys moved and how many newer answers were withheld. A tuple, as the answer line has them: a rule
+    // of the project.
     pub fn choose(&mut self, answers: &Answers) -> (u32, u32)
         ensures chosen { Chosen (holding self.old) (answered answers.now) (holding self.new) result.0 result.1 }
         ensures withheld { WithheldHere (holding self.old) (answered answers.now) (holding self.new) }
@@ -31,13 +33,7 @@ impl Cut {
     fn newer_keys(&self, answers: &Answers) -> KeySet
         ensures { (k : ℕ) → has result k ≡ is_newer (holding self.now) (answered answers.now) k }
     {
-        let mut newer = KeySet::empty();
-        for k in 0..KEYS {
-            if stamp_of(&answers.given[k as usize]).number > self.face.stamps[k as usize].number {
-                let _ = newer.insert(k);
-            }
-        }
-        newer
+        KeySet::of(|key| answers.given.stamp_at(key) > self.face.stamps[key.place()])
     }
 
     // The largest set of newer answers that fits: all of them, less those that turn out to rest on what the
@@ -47,14 +43,15 @@ impl Cut {
         ensures { LargestFit (holding self.now) (answered answers.now) (has result) }
     {
         let mut fitting = newer;
-        while let Some(k) = self.misfit(answers, fitting) {
-            fitting.remove(k);
+        // Kept a `while let`: which answer misfits is asked anew once one is struck out, so there is no list to go over.
+        while let Some(key) = self.misfit(answers, fitting) {
+            fitting = fitting.without(key);
         }
         fitting
     }
 
     // A key of a set of answers whose answer is not covered once they are all put in, or none.
-    fn misfit(&self, answers: &Answers, chosen: KeySet) -> Option<u32>
+    fn misfit(&self, answers: &Answers, chosen: KeySet) -> Option<Key>
         ensures { MatchOption result
             ((k : ℕ) → has chosen k ≡ true
             → CoversHeld (face_of (put_in (holding self.now) (answered answers.now) (has chosen))) (answered answers.now k))
@@ -62,9 +59,9 @@ impl Cut {
             × (CoversHeld (face_of (put_in (holding self.now) (answered answers.now) (has chosen))) (answered answers.now k) → ⊥)) }
     {
         let raised = self.face_with(answers, chosen);
-        for k in 0..KEYS {
-            if chosen.contains(k) && !covers_held(&raised, &answers.given[k as usize]) {
-                return Some(k);
+        for key in chosen.keys() {
+            if !covers_held(&raised, answers.given.at(key)) {
+                return Some(key);
             }
         }
         None
@@ -74,33 +71,23 @@ impl Cut {
     fn face_with(&self, answers: &Answers, chosen: KeySet) -> Row
         ensures { result ≡ face_of (put_in (holding self.now) (answered answers.now) (has chosen)) }
     {
-        let mut stamps = [Stamp::NONE; PLACES];
-        for k in 0..KEYS {
-            stamps[k as usize] = if chosen.contains(k) {
-                stamp_of(&answers.given[k as usize])
-            } else {
-                self.face.stamps[k as usize]
-            };
+        Row {
+            stamps: some_of(chosen, &answers.given.face().stamps, &self.face.stamps),
         }
-        Row { stamps }
     }
 
-    // Replaces the cut by itself with some answers put in.
+    // Replaces the cut by itself with some answers put in; it is not written where there are none.
     fn put_in(&mut self, answers: &Answers, chosen: KeySet)
         requires { Fits (holding self.old) (answered answers.now) (has chosen) }
         ensures { (k : ℕ) → holding self.new k ≡ put_in (holding self.old) (answered answers.now) (has chosen) k }
     {
-        let Some(_) = chosen.lowest() else {
+        if chosen.is_empty() {
             return;
-        };
-        let face = self.face_with(answers, chosen);
-        let mut held = self.held;
-        for k in 0..KEYS {
-            if chosen.contains(k) {
-                held[k as usize] = answers.given[k as usize];
-            }
         }
-        *self = Cut { held, face };
+        *self = Cut {
+            held: self.held.with_some_of(&answers.given, chosen),
+            face: self.face_with(answers, chosen),
+        };
     }
 }
 
@@ -108,18 +95,13 @@ impl Cut {
 pub fn stamp_of(held: &Option<Version>) -> Stamp
     ensures { result.number ≡ held_stamp held.now }
 {
-    match held {
-        Some(v) => v.stamp,
-        None => Stamp::NONE,
-    }
+    held.as_ref().map_or(Stamp::NONE, |version| version.stamp)
 }
 
 // Whether a face covers the row of what is held, if anything is.
 fn covers_held(face: &Row, held: &Option<Version>) -> bool
-    ensures { Decides result (CoversHeld face.now held.now) }
+    ensures { IsTrue result ↔ CoversHeld face.now held.now }
 {
-    match held {
-        Some(v) => face.covers(&v.row),
-        None => true,
-    }
+    held.as_ref()
+        .is_none_or(|version| face.covers(&version.row))
 }

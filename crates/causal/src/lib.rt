@@ -5,7 +5,6 @@ pub mod answers;
 pub mod choose;
 pub mod cut;
 pub mod draft;
-pub mod fill;
-pub mod hold;
 pub mod post;
+pub mod table;
 pub mod theorems;

@@ -1,4 +1,4 @@
-ghost use Rattle.std.specs.Prelude.{◌≡◌, ℕ, ◌<◌, ◌≤◌, is_some, IfOk, Some, MatchResult};
+ghost use Rattle.std.specs.Prelude.{◌≡◌, ℕ, ◌<◌, ◌≤◌, ◌↔◌, ◌&&◌, IsTrue, is_some, IfOk, Some, MatchResult};
 ghost use Rattle.stamps.specs.KeySets.{has};
 ghost use Rattle.stamps.specs.Numbers.{counter_limit};
 ghost use Rattle.stamps.specs.declared.refusal.Refusal.TheVariants.{OutOfRange, CounterSpent};
@@ -15,6 +15,7 @@ use stamps::stamp::Stamp;
 use stamps::value::Value;
 use versions::join::{Join, join_all};
 use versions::row::Row;
+use versions::valid::ValidVersion;
 use versions::version::Version;
 
 impl Cut {
@@ -33,8 +34,7 @@ impl Cut {
         if terminal >= TERMINALS || key >= KEYS || !value.in_range() {
             return Err(Refusal::OutOfRange);
         }
-        let held = self.keys_held();
-        let causes = sale.masked(held);
+        let causes = self.causes_in(sale);
         let row = self.row_of(causes);
         let counter = self.next_counter()?;
         if !row.is_older(counter) {
@@ -62,16 +62,21 @@ impl Cut {
             × (self.new ≡ self.old)) }
         ensures no_stamp_falls { NoStampFalls (holding self.old) (holding self.new) }
     {
-        if !version.is_version() || !self.face.covers(&version.row) {
+        let valid = ValidVersion::try_from(*version)?;
+        if !self.may_enter(&valid) {
             return Err(Refusal::OutOfRange);
         }
-        let key = version.key as usize;
-        if version.stamp.number <= self.face.stamps[key].number {
-            return Err(Refusal::OutOfRange);
-        }
-        self.held[key] = Some(*version);
-        self.face.stamps[key] = version.stamp;
+        self.held.put(&valid);
+        self.face.stamps[valid.place()] = version.stamp;
         Ok(())
+    }
+
+    // Whether the face covers a version, and the version stands above the stamp at its key.
+    fn may_enter(&self, version: &ValidVersion) -> bool
+        ensures { IsTrue result ↔ FitToEnter (holding self.now) version.now }
+    {
+        let entering = version.version();
+        self.face.covers(&entering.row) && entering.stamp > self.face.stamps[version.place()]
     }
 
     // The counter of the next post: one more than the highest in the face, 1 for an empty cut; refused 23
@@ -84,17 +89,11 @@ impl Cut {
         counter_after(&self.face.stamps)
     }
 
-    // The keys at which the cut holds a version.
-    fn keys_held(&self) -> KeySet
-        ensures { (k : ℕ) → has result k ≡ is_some (holding self.now k) }
+    // The keys of a sale at which the cut holds a version.
+    fn causes_in(&self, sale: KeySet) -> KeySet
+        ensures { (k : ℕ) → has result k ≡ (has sale k && is_some (holding self.now k)) }
     {
-        let mut held = KeySet::empty();
-        for k in 0..KEYS {
-            if self.held[k as usize].is_some() {
-                let _ = held.insert(k);
-            }
-        }
-        held
+        sale.masked(KeySet::of(|key| self.held.at(key).is_some()))
     }
 
     // The joined reaches of the versions held at some keys.
@@ -102,18 +101,17 @@ impl Cut {
         ensures { result ≡ row_of_post (causes_of (holding self.now) (has causes)) }
     {
         let mut row = Row::zeros();
-        let mut left = causes;
-        while let Some(k) = left.lowest() {
-            if let Some(v) = &self.held[k as usize] {
-                row = row.join(&v.reach());
+        for key in causes.keys() {
+            if let Some(version) = self.held.at(key) {
+                row = row.join(&version.reach());
             }
-            left.remove(k);
         }
         row
     }
 }
 
 // One more than the highest counter among the stamps of a row; refused 23 above the limit.
+#[tactic(auto, using(crate::proofs::Drafting::joined_highest, stamps::proofs::Stamping::counter_fits))]
 fn counter_after(stamps: &[Stamp; PLACES]) -> Result<u32, Refusal>
     ensures { MatchResult result
         (λ counter. (counter ≡ counter_after (record { stamps = stamps.entry.now })) × (counter ≤ counter_limit))

@@ -1,9 +1,8 @@
 -- What the layer shows after a run.
-use Rattle.std.proofs.Common.{◌≡◌, ℕ, suc, ◌+◌, ◌*◌, ◌<◌, ◌≤◌, List, [], ◌∷◌, sym, refl, ap, ◌∙◌, subst, ⊎_elim, mul-le-mul_right, add-mul, arith}
+use Rattle.std.proofs.Common.{◌≡◌, ℕ, suc, ◌+◌, ◌*◌, ◌<◌, ◌≤◌, List, [], ◌∷◌, sym, refl, ◌∙◌, subst, ⊎_elim, mul-le-mul_right, add-mul, arith}
 use Rattle.std.proofs.lemmas.Bool.{cases_lt}
 use Rattle.store.specs.Kinds.{Kind}
 use Rattle.store.specs.Meanings.{InAskRange}
-use Rattle.store.specs.Registers.{Sites}
 use Rattle.store.specs.Runs.{Deed, did_put, did_tick, Ran, ticks_of}
 use Rattle.poll.specs.Copying.{PartedAtCopy, PollLaw}
 use Rattle.poll.specs.Poll.{PollState, poll_start, after_copying, after_counting, poll_kind}
@@ -15,21 +14,16 @@ record Stays (K : Kind) (u : PollState K) (ticks : ℕ) (s : PollState K) : Type
   shown : s.snapshot ≡ u.snapshot
   left : ticks + s.countdown ≡ u.countdown
 
+-- so it is after any deeds
 stays : (K : Kind) (u : PollState K) (ds : List Deed) (s : PollState K) → Ran (poll_kind K) u ds s → ticks_of ds < u.countdown → Stays K u (ticks_of ds) s
-stays K u [] s e h = record { shown = ap (λ (x : PollState K). x.snapshot) e; left = omega (arith, ap (λ (x : PollState K). x.countdown) e) }
+stays K u [] s e h = record { shown = cc; left = grind arith }
 stays K u (did_put site v answer ∷ ds) s (t, ran, put) h =
     let before = stays K u ds t ran h in
-    record {
-      shown = ap (λ (x : PollState K). x.snapshot) put.leaves ∙ before.shown;
-      left = ap (λ (x : PollState K). ticks_of ds + x.countdown) put.leaves ∙ before.left;
-    }
+    record { shown = cc; left = cc }
 stays K u (did_tick ∷ ds) s (t, ran, tick) h =
-    let before = stays K u ds t ran (omega (arith, h)) in
-    let e : s ≡ after_counting K t tick.below_after = tick.leaves ∙ tick_counts K t tick.below_after (omega (arith, before.left, h)) in
-    record {
-      shown = ap (λ (x : PollState K). x.snapshot) e ∙ before.shown;
-      left = omega (arith, ap (λ (x : PollState K). x.countdown) e, before.left, h);
-    }
+    let before = stays K u ds t ran (omega arith) in
+    let e : s ≡ after_counting K t tick.below_after = tick.leaves ∙ tick_counts K t tick.below_after (omega arith) in
+    record { shown = cc; left = grind arith }
 
 -- at any time the ticks so far and those left to the next copying make whole periods
 record Phase (K : Kind) (period ticks : ℕ) (s : PollState K) : Type 0 where
@@ -39,14 +33,14 @@ record Phase (K : Kind) (period ticks : ℕ) (s : PollState K) : Type 0 where
   most : s.countdown ≤ period
   lasting : s.period ≡ period
 
+-- so it is after any deeds from new
 phase : (K : Kind) (below : K.State) (period : ℕ) → 1 ≤ period → (ds : List Deed) (s : PollState K) → Ran (poll_kind K) (poll_start K below period) ds s
     → Phase K period (ticks_of ds) s
 phase K below period h [] s e =
-    subst (Phase K period 0) (sym e) (record { periods = 0; whole = omega arith; least = h; most = omega arith; lasting = refl })
+    rw e (record { periods = 0; whole = omega arith; least = h; most = omega arith; lasting = refl })
 phase K below period h (did_put site v answer ∷ ds) s (t, ran, put) =
     let before = phase K below period h ds t ran in
-    subst (Phase K period (ticks_of ds)) (sym put.leaves)
-    (record { periods = before.periods; whole = before.whole; least = before.least; most = before.most; lasting = before.lasting })
+    rw put.leaves (record { periods = before.periods; whole = before.whole; least = before.least; most = before.most; lasting = before.lasting })
 phase K below period h (did_tick ∷ ds) s (t, ran, tick) =
     let before = phase K below period h ds t ran in
     let q = before.periods in
@@ -54,16 +48,16 @@ phase K below period h (did_tick ∷ ds) s (t, ran, tick) =
     (tick_each K t tick.below_after (Phase K period (suc (ticks_of ds)))
     (λ last. record {
       periods = q + 1;
-      whole = omega (arith, before.whole, before.least, before.lasting, last, add-mul q 1 period);
-      least = omega (arith, before.lasting, h);
-      most = omega (arith, before.lasting);
+      whole = omega (arith, add-mul q 1 period);
+      least = omega arith;
+      most = omega arith;
       lasting = before.lasting;
     })
     (λ more. record {
       periods = q;
-      whole = omega (arith, before.whole, more);
-      least = omega (arith, more);
-      most = omega (arith, before.most);
+      whole = omega arith;
+      least = omega arith;
+      most = omega arith;
       lasting = before.lasting;
     }))
 
@@ -72,9 +66,9 @@ copies_now : (K : Kind) (period ticks n : ℕ) (s : PollState K) → Phase K per
 copies_now K period ticks n s at e =
     ⊎_elim
     (λ less.
-    let m : (at.periods + 1) * period ≤ n * period = mul-le-mul_right period (omega (arith, less)) in
-    omega (arith, at.whole, e, m, add-mul at.periods 1 period))
-    (λ enough. let m : n * period ≤ at.periods * period = mul-le-mul_right period enough in absurd (omega (arith, at.whole, at.most, at.least, e, m)))
+    let m : (at.periods + 1) * period ≤ n * period = mul-le-mul_right period (omega arith) in
+    omega (arith, add-mul at.periods 1 period))
+    (λ enough. let m : n * period ≤ at.periods * period = mul-le-mul_right period enough in absurd (omega arith))
     (cases_lt at.periods n)
 
 -- at which it leaves a copy, and the whole period to go
@@ -85,16 +79,14 @@ copied_there K below period h earlier n u (t, before, tick) times =
     let at = phase K below period h earlier t before in
     let now : u ≡ after_copying K t tick.below_after =
     tick.leaves ∙ tick_copies K t tick.below_after (copies_now K period (ticks_of earlier) n t at times) in (
-      ap (λ (x : PollState K). x.countdown) now ∙ at.lasting,
-      λ site key within. ap (λ (x : PollState K). x.snapshot site key) now
-          ∙ copy_at (K.means tick.below_after).shown site key within
-          ∙ sym (ap (λ (x : PollState K). (K.means x.below).shown site key) now),
+      cc,
+      λ site key within. rw now (copy_at (K.means tick.below_after).shown site key within),
     )
 
 -- once a period has passed there is such a tick
 parted_at : (K : Kind) (below : K.State) (period : ℕ) → 1 ≤ period → (ds : List Deed) (s : PollState K) → Ran (poll_kind K) (poll_start K below period) ds s
     → period ≤ ticks_of ds → PartedAtCopy K (poll_start K below period) ds s
-parted_at K below period h [] s e some = absurd (omega (arith, h, some))
+parted_at K below period h [] s e some = absurd (omega arith)
 parted_at K below period h (did_put site v answer ∷ ds) s (t, ran, put) some =
     let before = parted_at K below period h ds t ran some in
     record {
@@ -102,7 +94,7 @@ parted_at K below period h (did_put site v answer ∷ ds) s (t, ran, put) some =
       earlier = before.earlier;
       there = before.there;
       number = before.number;
-      parted = ap (λ (xs : List Deed). did_put site v answer ∷ xs) before.parted;
+      parted = cc;
       led_there = before.led_there;
       led_on = (t, before.led_on, put);
       whole = before.whole;
@@ -123,14 +115,14 @@ parted_at K below period h (did_tick ∷ ds) s (t, ran, tick) some = ⊎_elim la
           parted = refl;
           led_there = (t, ran, tick);
           led_on = refl;
-          whole = omega (arith, one, at.whole, at.least, add-mul at.periods 1 period);
+          whole = omega (arith, at.whole, at.least, add-mul at.periods 1 period);
           since = h;
         }
 
     more : (period ≤ ticks_of ds → PartedAtCopy K (poll_start K below period) ds t) → 2 ≤ t.countdown → PartedAtCopy K (poll_start K below period) (did_tick ∷ ds) s
     more there left =
         let enough : period ≤ ticks_of ds =
-        ⊎_elim (λ few. absurd (omega (arith, some, left, (stays K (poll_start K below period) ds t ran few).left))) (λ l. l) (cases_lt (ticks_of ds) period) in
+        ⊎_elim (λ few. absurd (omega (arith, (stays K (poll_start K below period) ds t ran few).left))) (λ l. l) (cases_lt (ticks_of ds) period) in
         let before = there enough in
         let full = (copied_there K below period h before.earlier before.number before.there before.led_there before.whole).0 in
         record {
@@ -138,20 +130,21 @@ parted_at K below period h (did_tick ∷ ds) s (t, ran, tick) some = ⊎_elim la
           earlier = before.earlier;
           there = before.there;
           number = before.number;
-          parted = ap (λ (xs : List Deed). did_tick ∷ xs) before.parted;
+          parted = cc;
           led_there = before.led_there;
           led_on = (t, before.led_on, tick);
           whole = before.whole;
-          since = omega (arith, left, full, (stays K before.there before.later t before.led_on (omega (arith, full, before.since))).left);
+          since = omega (arith, (stays K before.there before.later t before.led_on (omega (arith, full, before.since))).left);
         }
 
+-- so the layer shows the last copy
 pub poll_law : (K : Kind) → PollLaw K
 poll_law K below period ds s h ran =
     record {
-      nothing_at_first = λ few site key. ap (λ (x : Sites). x site key) (stays K (poll_start K below period) ds s ran few).shown;
+      nothing_at_first = λ few site key. rw (stays K (poll_start K below period) ds s ran few).shown;
       there_is_one = parted_at K below period h ds s ran;
       the_copy_since = λ p site key hs hk.
           let copy = copied_there K below period h p.earlier p.number p.there p.led_there p.whole in
-          let few : ticks_of p.later < p.there.countdown = omega (arith, copy.0, p.since) in
-          ap (λ (x : Sites). x site key) (stays K p.there p.later s p.led_on few).shown ∙ copy.1 site key (hs, hk);
+          let few : ticks_of p.later < p.there.countdown = omega arith in
+          rw (stays K p.there p.later s p.led_on few).shown (copy.1 site key (hs, hk));
     }

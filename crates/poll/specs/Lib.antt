@@ -2,8 +2,8 @@ pub mod Copying
 pub mod Holding
 pub mod Numbers
 pub mod Poll
-pub mod Steps
 pub mod Layering
 pub mod Comparing
 pub mod Ticking
 pub mod Timing
+pub mod Exactness

@@ -1,16 +1,15 @@
 -- The poll layer: it shows a snapshot of the store below, copied once in each period.
-use Rattle.std.specs.Prelude.{◌≡◌, ℕ, ◌+◌, ◌-◌, ◌*◌, ◌≤◌, min, Bool, true, cond, ◌&&◌, ◌++◌, Some, None, Ok, Err, Option, ◌==◌, nat_lt}
+use Rattle.std.specs.Prelude.{◌≡◌, ℕ, ◌+◌, ◌-◌, ◌*◌, ◌≤◌, Bool, true, cond, ◌&&◌, ◌++◌, Some, None, Ok, Err, Option, ◌==◌, nat_lt}
 use Rattle.stamps.specs.Keys.{every_below}
-use Rattle.stamps.specs.Numbers.{keys, sites, depth_limit}
+use Rattle.stamps.specs.Numbers.{keys, sites}
 use Rattle.stamps.specs.declared.refusal.Bar.{Bar}
 use Rattle.versions.specs.declared.version.Version.{Version}
 use Rattle.causal.specs.Tables.{held_stamp}
 use Rattle.store.specs.Kinds.{Kind}
 use Rattle.store.specs.Meanings.{Meaning}
-use Rattle.store.specs.Puts.{PutAnswer}
+use Rattle.store.specs.Puts.{PutAnswer, bar_passed_up, refusal_passed_up}
 use Rattle.store.specs.Registers.{is_placed, Sites, all_held_at}
 use Rattle.store.specs.Waits.{divided_up}
-use Rattle.store.specs.declared.put_refusal.PutRefusal.TheVariants.{Unfit, Barring}
 use Rattle.poll.specs.Numbers.{period_limit}
 
 -- a poll layer over a make of store, at a moment
@@ -28,10 +27,6 @@ pub record PollState (K : Kind) : Type 0 where
 abbrev pub poll_start : (K : Kind) → K.State → ℕ → PollState K
 poll_start K below period = record { below = below; snapshot = λ site key. None; period = period; countdown = period }
 
--- a bar as the layer above gives it: the depth is one more, never above 255
-abbrev pub bar_passed_up : Bar → Bar
-bar_passed_up b = record { refusal = b.refusal; depth = min depth_limit (b.depth + 1) }
-
 -- there is a bar above when there is one below
 abbrev pub passed_up : Option Bar → Option Bar
 passed_up None = None
@@ -40,8 +35,7 @@ passed_up (Some b) = Some (bar_passed_up b)
 -- the answer to a put as the layer above gives it
 abbrev pub answer_passed_up : PutAnswer → PutAnswer
 answer_passed_up (Ok done) = Ok done
-answer_passed_up (Err Unfit) = Err Unfit
-answer_passed_up (Err (Barring b)) = Err (Barring (bar_passed_up b))
+answer_passed_up (Err e) = Err (refusal_passed_up e)
 
 -- a copy of what is shown at every site and key
 abbrev pub copy_of : Sites → Sites

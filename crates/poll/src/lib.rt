@@ -2,10 +2,8 @@
 #![tactic(auto)]
 
 pub mod copying;
-pub mod countdown;
 pub mod limits;
 pub mod period;
-pub mod periods;
 pub mod poll;
-pub mod serve;
 pub mod snapshot;
+pub mod theorems;

@@ -1,10 +1,10 @@
 -- The registers of replicas hold the highest of what has come, after any puts and ticks.
-use Rattle.std.proofs.Common.{◌≡◌, ℕ, zero, suc, ◌+◌, ◌-◌, ◌<◌, ◌≤◌, not, List, [], ◌∷◌, ◌++◌, map, Some, Ok, Err, filter, sym, refl, ap, ◌∙◌, subst, inl, inr, ⊎_elim, arith}
-use Rattle.std.proofs.lemmas.Bool.{cases_eq, cases_lt, eq-eqb, ne_eqb, not_from_false}
+use Rattle.std.proofs.Common.{◌≡◌, ℕ, zero, suc, ◌+◌, ◌-◌, ◌<◌, ◌≤◌, not, List, [], ◌∷◌, ◌++◌, map, Some, Ok, Err, filter, sym, refl, ap, ap₂, ◌∙◌, subst, inl, inr, ⊎_elim, arith}
+use Rattle.std.proofs.lemmas.Bool.{cases_lt, eq-eqb, ne_eqb, not_from_false}
 use Rattle.stamps.specs.Numbers.{keys, sites}
 use Rattle.versions.specs.Joins.{In}
 use Rattle.versions.specs.declared.version.Version.{Version}
-use Rattle.causal.specs.Tables.{Table, held_stamp}
+use Rattle.causal.specs.Tables.{held_stamp}
 use Rattle.causal.proofs.Tabling.{none_some}
 use Rattle.store.specs.Puts.{PutAnswer, refused_unfit, refused_barred, put_accepted}
 use Rattle.store.specs.Registers.{Sites}
@@ -15,8 +15,7 @@ use Rattle.replicas.specs.Arrivals.{HasReached, RegistersHoldTheHighest, Replica
 use Rattle.replicas.specs.Lines.{line_time}
 use Rattle.replicas.specs.Replicas.{ReplicasState, after_put, after_tick, delivered, has_come, lowered, put_now, replicas_kind, replicas_start, sent_below}
 use Rattle.replicas.specs.declared.delivery.Delivery.{Delivery}
-use Rattle.replicas.specs.Forecasting.{came_one, came_stamp, delivered_one, delivered_stamp, from_sent, in_kept, in_sent, stamp_of_own, way_member}
-use Rattle.replicas.specs.Sending.{put_far, put_here}
+use Rattle.replicas.specs.Forecasting.{delivered_one, delivered_stamp, from_sent, in_kept, in_sent, put_highest, put_one, put_stamp, way_member}
 use Rattle.replicas.specs.Soundness.{from_come, from_stay}
 
 -- a delivery is one of a version that was put, and has the rest of the line time left
@@ -27,13 +26,9 @@ record Underway (ts : List ℕ) (ds : List Deed) (d : Delivery) : Type 0 where
   left : d.left + ticks ≡ line_time ts from d.site
   more : d.left ≡ 0 → ⊥
 
--- and what was put has a delivery for each site that it has not come to
-record Awaited (ts : List ℕ) (pending : List Delivery) (from : ℕ) (v : Version) (ticks site : ℕ) : Type 0 where
-  delivery : Delivery
-  member : In delivery pending
-  version : delivery.version ≡ v
-  site_is : delivery.site ≡ site
-  left : delivery.left + ticks ≡ line_time ts from site
+-- and what was put so many ticks ago has one for each site that it has not come to
+abbrev awaited_one : List ℕ → ℕ → Version → ℕ → ℕ → Delivery
+awaited_one ts from v ticks site = record { version = v; site = site; left = line_time ts from site - ticks }
 
 -- what holds after a run
 record Arrived (ts : List ℕ) (ds : List Deed) (s : ReplicasState) : Type 0 where
@@ -42,7 +37,7 @@ record Arrived (ts : List ℕ) (ds : List Deed) (s : ReplicasState) : Type 0 whe
   underway : (d : Delivery) → In d s.deliveries → Underway ts ds d
   awaited :
       (from : ℕ) (v : Version) (ticks site : ℕ) → PutAgo ds from v ticks → site < sites → ticks < line_time ts from site
-      → Awaited ts s.deliveries from v ticks site
+      → In (awaited_one ts from v ticks site) s.deliveries
 
 -- it holds of new replicas
 arrived_start : (ts : List ℕ) → Arrived ts [] (replicas_start ts)
@@ -55,9 +50,6 @@ arrived_start ts =
     }
 
 -- what a refused put leaves
-ok_or_err : (e : PutRefusal) → ◌≡◌ {A = PutAnswer} (Err e) (Ok tt) → ⊥
-ok_or_err e p = let z : ◌≡◌ {A = ℕ} 0 1 = cc in omega arith
-
 arrived_refused : (ts : List ℕ) (ds : List Deed) (s : ReplicasState) (site : ℕ) (v : Version) (e : PutRefusal) → Arrived ts ds s
     → Arrived ts (did_put site v (Err e) ∷ ds) s
 arrived_refused ts ds s site v e a =
@@ -75,7 +67,7 @@ arrived_refused ts ds s site v e a =
     }
   where
     older : (from : ℕ) (w : Version) (ticks : ℕ) → PutAgo (did_put site v (Err e) ∷ ds) from w ticks → PutAgo ds from w ticks
-    older from w ticks (inl p) = absurd (ok_or_err e p.0)
+    older from w ticks (inl p) = let refused = p.0 in cc
     older from w ticks (inr p) = p
 
 -- what an accepted one leaves
@@ -95,6 +87,9 @@ arrived_put ts ds s site v a =
     now : Deed
     now = did_put site v (Ok tt)
 
+    sent : List Delivery
+    sent = sent_below sites s.times site v
+
     line : (j : ℕ) → line_time s.times site j ≡ line_time ts site j
     line j = ap (λ (l : List ℕ). line_time l site j) a.lines
 
@@ -103,64 +98,32 @@ arrived_put ts ds s site v a =
 
     came : (j k : ℕ) (w : Version) → j < sites → k < keys → put_now s.times site v t j k ≡ Some w → HasReached ts (now ∷ ds) j w × (w.key ≡ k)
     came j k w hj hk f =
-        ⊎_elim
-        (λ near. ⊎_elim (old j k w hj hk)
-        (λ new. ((site, 0, inl (refl, refl, new.0, refl), omega (arith, near, line j)), ap (λ (x : Version). x.key) new.0 ∙ new.1))
-        (came_one (t j) v k w (ap (λ (g : Table). g k) (sym (put_here sites s.times site v t j hj near)) ∙ f)))
-        (λ far. old j k w hj hk (ap (λ (g : Table). g k) (sym (put_far sites s.times site v t j far)) ∙ f)) (cases_eq (line_time s.times site j) 0)
-
-    -- no stamp falls
-    rises : (j k : ℕ) → j < sites → held_stamp (t j k) ≤ held_stamp (put_now s.times site v t j k)
-    rises j k hj =
-        ⊎_elim
-        (λ near. omega (arith, ap (λ (g : Table). held_stamp (g k)) (put_here sites s.times site v t j hj near), came_stamp (t j) v k))
-        (λ far. omega (arith, ap (λ (g : Table). held_stamp (g k)) (put_far sites s.times site v t j far))) (cases_eq (line_time s.times site j) 0)
+        ⊎_elim (old j k w hj hk)
+        (λ new. ((site, 0, inl (refl, refl, new.0, refl), omega (arith, new.2, line j)), ap (λ (x : Version). x.key) new.0 ∙ new.1))
+        (put_one s.times site v t j k w f)
 
     highest : (j : ℕ) (w : Version) → j < sites → HasReached ts (now ∷ ds) j w → w.stamp.number ≤ held_stamp (put_now s.times site v t j w.key)
     highest j w hj c =
         ⊎_elim
-        (λ p. let near = line j ∙ ap (λ (x : ℕ). line_time ts x j) (sym p.1) in
-        let own = ap (λ (x : Version). x.key) (sym p.2) in
-        let zero' : line_time s.times site j ≡ 0 = omega (arith, near, c.3, p.3) in
-        omega (
-          arith,
-          ap (λ (g : Table). held_stamp (g w.key)) (put_here sites s.times site v t j hj zero'),
-          came_stamp (t j) v w.key,
-          stamp_of_own w.key v own,
-          ap (λ (x : Version). x.stamp.number) p.2,
-        ))
-        (λ p. let before = a.highest.holds_the_highest j w hj (c.0, c.1, p, c.3) in omega (arith, before, rises j w.key hj)) c.2
+        (λ p. let near : line_time s.times site j ≡ 0 = omega (arith, line j, ap (λ (x : ℕ). line_time ts x j) p.1, c.3, p.3) in
+        subst (λ (x : Version). x.stamp.number ≤ held_stamp (put_now s.times site v t j x.key)) (sym p.2) (put_highest s.times site v t j hj near))
+        (λ p. omega (arith, a.highest.holds_the_highest j w hj (c.0, c.1, p, c.3), put_stamp s.times site v t j w.key hj)) c.2
 
-    underway : (d : Delivery) → In d (s.deliveries ++ sent_below sites s.times site v) → Underway ts (now ∷ ds) d
+    underway : (d : Delivery) → In d (s.deliveries ++ sent) → Underway ts (now ∷ ds) d
     underway d i =
         ⊎_elim
         (λ l. let u = a.underway d l in record { from = u.from; ticks = u.ticks; put = inr u.put; left = u.left; more = u.more })
         (λ r. let p = from_sent sites s.times site v d r in
         record { from = site; ticks = 0; put = inl (refl, refl, p.0, refl); left = omega (arith, p.2, line d.site); more = p.3 })
-        (in_either d s.deliveries (sent_below sites s.times site v) i)
+        (in_either d s.deliveries sent i)
 
     awaited : (from : ℕ) (w : Version) (ticks j : ℕ) → PutAgo (now ∷ ds) from w ticks → j < sites → ticks < line_time ts from j
-        → Awaited ts (s.deliveries ++ sent_below sites s.times site v) from w ticks j
+        → In (awaited_one ts from w ticks j) (s.deliveries ++ sent)
     awaited from w ticks j (inl p) hj h =
-        let same = line j ∙ ap (λ (x : ℕ). line_time ts x j) (sym p.1) in
-        let far : line_time s.times site j ≡ 0 → ⊥ = λ z. omega (arith, z, same, h) in
-        let d : Delivery = record { version = v; site = j; left = line_time s.times site j } in
-        record {
-          delivery = d;
-          member = in_right d s.deliveries (sent_below sites s.times site v) (in_sent sites s.times site v j hj far);
-          version = sym p.2;
-          site_is = refl;
-          left = omega (arith, same, p.3);
-        }
-    awaited from w ticks j (inr p) hj h =
-        let r = a.awaited from w ticks j p hj h in
-        record {
-          delivery = r.delivery;
-          member = in_left r.delivery s.deliveries (sent_below sites s.times site v) r.member;
-          version = r.version;
-          site_is = r.site_is;
-          left = r.left;
-        }
+        let same : line_time ts from j - ticks ≡ line_time s.times site j = omega (arith, line j, ap (λ (x : ℕ). line_time ts x j) p.1, p.3) in
+        let one = ap₂ {C = Delivery} (λ (x : Version) (n : ℕ). record { version = x; site = j; left = n }) p.2 same in
+        in_right (awaited_one ts from w ticks j) s.deliveries sent (subst (λ (d : Delivery). In d sent) (sym one) (in_sent sites s.times site v j hj (λ z. omega (arith, z, same, h))))
+    awaited from w ticks j (inr p) hj h = in_left (awaited_one ts from w ticks j) s.deliveries sent (a.awaited from w ticks j p hj h)
 
 -- what a tick leaves
 arrived_tick : (ts : List ℕ) (ds : List Deed) (s : ReplicasState) → Arrived ts ds s → Arrived ts (did_tick ∷ ds) (after_tick s)
@@ -204,11 +167,10 @@ arrived_tick ts ds s a =
         of_ticks zero p h = absurd p
         of_ticks (suc ticks) p h =
             ⊎_elim
-            (λ now. let r = a.awaited c.0 w ticks j p hj now in
-            let gone : r.delivery.left - 1 ≡ 0 = omega (arith, r.left, h, now) in
-            let i = in_kept has_come (lowered r.delivery) low (in_map lowered r.delivery s.deliveries r.member) (eq-eqb (r.delivery.left - 1) 0 gone) in
-            let way = way_member j w.key (lowered r.delivery) come i r.site_is (ap (λ (x : Version). x.key) r.version) in
-            omega (arith, way, ap (λ (x : Version). x.stamp.number) r.version, delivered_stamp t come j w.key))
+            (λ now. let one = lowered (awaited_one ts c.0 w ticks j) in
+            let gone : one.left ≡ 0 = omega (arith, h, now) in
+            let i = in_kept has_come one low (in_map lowered (awaited_one ts c.0 w ticks j) s.deliveries (a.awaited c.0 w ticks j p hj now)) (eq-eqb one.left 0 gone) in
+            omega (arith, way_member j w.key one come i refl refl, delivered_stamp t come j w.key))
             (λ before. omega (arith, a.highest.holds_the_highest j w hj (c.0, ticks, p, before), delivered_stamp t come j w.key))
             (cases_lt ticks (line_time ts c.0 j))
 
@@ -228,20 +190,14 @@ arrived_tick ts ds s a =
         }
 
     awaited : (from : ℕ) (w : Version) (ticks j : ℕ) → PutAgo (did_tick ∷ ds) from w ticks → j < sites → ticks < line_time ts from j
-        → Awaited ts stay from w ticks j
+        → In (awaited_one ts from w ticks j) stay
     awaited from w zero j p hj h = absurd p
     awaited from w (suc ticks) j p hj h =
-        let r = a.awaited from w ticks j p hj (omega (arith, h)) in
-        let far : r.delivery.left - 1 ≡ 0 → ⊥ = λ z. omega (arith, z, r.left, h) in
-        record {
-          delivery = lowered r.delivery;
-          member =
-              in_kept (λ d. not (has_come d)) (lowered r.delivery) low (in_map lowered r.delivery s.deliveries r.member)
-              (not_from_false (has_come (lowered r.delivery)) (ne_eqb (r.delivery.left - 1) 0 far));
-          version = r.version;
-          site_is = r.site_is;
-          left = omega (arith, r.left, h);
-        }
+        let less : line_time ts from j - ticks - 1 ≡ line_time ts from j - suc ticks = omega arith in
+        let one = ap {B = Delivery} (λ (n : ℕ). record { version = w; site = j; left = n }) less in
+        let before = in_map lowered (awaited_one ts from w ticks j) s.deliveries (a.awaited from w ticks j p hj (omega (arith, h))) in
+        in_kept (λ d. not (has_come d)) (awaited_one ts from w (suc ticks) j) low (subst (λ (d : Delivery). In d low) one before)
+        (not_from_false (has_come (awaited_one ts from w (suc ticks) j)) (ne_eqb (line_time ts from j - suc ticks) 0 (λ z. omega (arith, z, h))))
 
 -- so it holds after any run
 arrived : (ts : List ℕ) (ds : List Deed) (s : ReplicasState) → Ran replicas_kind (replicas_start ts) ds s → Arrived ts ds s

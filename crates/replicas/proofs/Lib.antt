@@ -1,2 +1,3 @@
 pub mod Arriving
-pub mod Networking
+pub mod Coming
+pub mod Putting

@@ -1,126 +1,122 @@
 -- Members of lists of deliveries, and what a put and a tick do to registers, deliveries and forecasts.
-use Rattle.std.specs.Prelude.{◌≡◌, ℕ, zero, suc, ◌<◌, ◌≤◌, max, Bool, true, cond, not, ◌&&◌, ◌⊎◌, List, [], ◌∷◌, ◌++◌, map, Some, filter, ◌==◌, ◌≢◌, refl}
+use Rattle.std.specs.Prelude.{◌≡◌, ℕ, zero, suc, ◌<◌, ◌≤◌, max, Bool, true, false, cond, not, ◌&&◌, ◌⊎◌, List, [], ◌∷◌, ◌++◌, map, Some, filter, ◌==◌, nat_lt, ◌≢◌, refl}
 use Rattle.std.proofs.Common.{inl, inr, ⊎_elim, sym, ap, subst, ◌∙◌, arith}
-use Rattle.std.proofs.lemmas.Bool.{cases_eq, cases_Bool, cond-true, cond-false, eq-eqb, ne_eqb, not_from_true, not_from_false}
+use Rattle.std.proofs.lemmas.Bool.{both_ways, cases_eq, cond-true, cond_both, eq-eqb, eqb-false}
+use Rattle.std.proofs.lemmas.Bool.Decides.{nat_tests}
 use Rattle.stamps.specs.Numbers.{sites}
 use Rattle.versions.specs.Joins.{In}
 use Rattle.versions.specs.declared.version.Version.{Version}
-use Rattle.causal.specs.Tables.{Table, held_stamp}
+use Rattle.causal.specs.Tables.{held_stamp}
 use Rattle.store.specs.Registers.{Sites, came_to, came_at}
 use Rattle.store.proofs.Keeping.{in_left, in_right, in_either}
-use Rattle.store.proofs.Registering.{taken_stamp, taken_one, came_here, came_there, came_at_here, came_at_there}
 use Rattle.replicas.specs.Lines.{line_time}
 use Rattle.replicas.specs.Replicas.{delivered, forecast, has_come, lowered, on_the_way, put_now, sent_below, sent_later}
 use Rattle.replicas.specs.declared.delivery.Delivery.{Delivery}
-use Rattle.replicas.specs.Sending.{later_none, later_one, put_here, put_far}
+use Rattle.replicas.specs.Sending.{later_one}
+
+-- a choice of two functions, at an argument
+pub cond_at : {A B : Type 0} (b : Bool) (f g : A → B) (x : A) → cond b f g x ≡ cond b (f x) (g x)
+cond_at true f g x = refl
+cond_at false f g x = refl
 
 -- members of what a filter keeps
 pub in_kept : {X : Type 0} (p : X → Bool) (x : X) (xs : List X) → In x xs → p x ≡ true → In x (filter p xs)
-in_kept p x [] i e = absurd i
-in_kept p x (y ∷ xs) (inl s) e =
-    subst (λ l. In x l) (sym (cond-true (p y) (y ∷ filter p xs) (filter p xs) (ap p (sym s) ∙ e))) (inl s)
-in_kept p x (y ∷ xs) (inr i) e =
-    ⊎_elim (λ t. subst (λ l. In x l) (sym (cond-true (p y) (y ∷ filter p xs) (filter p xs) t)) (inr (in_kept p x xs i e)))
-    (λ f. subst (λ l. In x l) (sym (cond-false (p y) (y ∷ filter p xs) (filter p xs) f)) (in_kept p x xs i e)) (cases_Bool (p y))
+in_kept p x [] i e = i
+in_kept p x (y ∷ xs) i e =
+    cond_both (p y) (y ∷ filter p xs) (filter p xs) (λ l. In x l) (λ t. ⊎_elim (λ s. inl s) (λ j. inr (in_kept p x xs j e)) i)
+    (λ f. ⊎_elim (λ s. absurd (both_ways (p y) f (ap p (sym s) ∙ e))) (λ j. in_kept p x xs j e) i)
 
 pub from_kept : {X : Type 0} (p : X → Bool) (x : X) (xs : List X) → In x (filter p xs) → In x xs × (p x ≡ true)
 from_kept p x [] i = absurd i
 from_kept p x (y ∷ xs) i =
-    ⊎_elim
-    (λ t. ⊎_elim (λ e. (inl e, ap p e ∙ t)) (λ j. let r = from_kept p x xs j in (inr r.0, r.1))
-    (subst (λ l. In x l) (cond-true (p y) (y ∷ filter p xs) (filter p xs) t) i))
-    (λ f. let r = from_kept p x xs (subst (λ l. In x l) (cond-false (p y) (y ∷ filter p xs) (filter p xs) f) i) in (inr r.0, r.1))
-    (cases_Bool (p y))
+    cond_both (p y) (y ∷ filter p xs) (filter p xs) (λ l. In x l → In x (y ∷ xs) × (p x ≡ true))
+    (λ t j. ⊎_elim (λ s. (inl s, ap p s ∙ t)) (λ k. let r = from_kept p x xs k in (inr r.0, r.1)) j)
+    (λ f j. let r = from_kept p x xs j in (inr r.0, r.1)) i
 
 -- the stamp of a version that is of a key
 abbrev pub stamp_of : ℕ → Version → ℕ
 stamp_of key v = cond (v.key == key) v.stamp.number 0
 
 pub stamp_of_own : (key : ℕ) (v : Version) → v.key ≡ key → stamp_of key v ≡ v.stamp.number
-stamp_of_own key v e = cond-true (v.key == key) v.stamp.number 0 (eq-eqb v.key key e)
+stamp_of_own key v e = grind (arith, nat_tests)
 
 pub stamp_of_other : (key : ℕ) (v : Version) → (v.key ≢ key) → stamp_of key v ≡ 0
-stamp_of_other key v ne = cond-false (v.key == key) v.stamp.number 0 (ne_eqb v.key key ne)
-
--- a register holds what it held, or what came to it
-pub came_one : (t : Table) (v : Version) (k : ℕ) (w : Version) → came_to t v k ≡ Some w → (t k ≡ Some w) ⊎ ((w ≡ v) × (v.key ≡ k))
-came_one t v k w e =
-    ⊎_elim
-    (λ at. ⊎_elim (λ new. inr (new, sym at)) (λ old. inl old) (taken_one (t k) v w (sym (came_here t v k at) ∙ e)))
-    (λ ne. inl (sym (came_there t v k ne) ∙ e)) (cases_eq k v.key)
-
--- and has the higher of both stamps
-pub came_stamp : (t : Table) (v : Version) (k : ℕ) → held_stamp (came_to t v k) ≡ max (held_stamp (t k)) (stamp_of k v)
-came_stamp t v k =
-    ⊎_elim
-    (λ at. ap held_stamp (came_here t v k at) ∙ taken_stamp (t k) v ∙ ap (λ (n : ℕ). max (held_stamp (t k)) n) (sym (stamp_of_own k v (sym at))))
-    (λ ne. let same = ap held_stamp (came_there t v k ne) in omega (arith, same, stamp_of_other k v (λ e. ne (sym e)))) (cases_eq k v.key)
+stamp_of_other key v ne = grind (arith, nat_tests)
 
 -- of a delivery, at a site and key
-abbrev pub way_of : ℕ → ℕ → Delivery → ℕ
+abbrev way_of : ℕ → ℕ → Delivery → ℕ
 way_of s k d = cond (d.site == s && d.version.key == k) d.version.stamp.number 0
 
-pub way_here : (s k : ℕ) (d : Delivery) → d.site ≡ s → way_of s k d ≡ stamp_of k d.version
-way_here s k d e = ap (λ (b : Bool). cond (b && d.version.key == k) d.version.stamp.number 0) (eq-eqb d.site s e)
+-- a register holds what it held, or what came to it, and has the higher of both stamps
+came_one : (t : Sites) (d : Delivery) (s k : ℕ) (w : Version) → came_at t d.site d.version s k ≡ Some w
+    → (t s k ≡ Some w) ⊎ ((w ≡ d.version) × (d.site ≡ s) × (d.version.key ≡ k))
+came_one t d s k w e = let at = simp cond_at at e in grind (arith, nat_tests)
 
-pub way_there : (s k : ℕ) (d : Delivery) → (d.site ≢ s) → way_of s k d ≡ 0
-way_there s k d ne = ap (λ (b : Bool). cond (b && d.version.key == k) d.version.stamp.number 0) (ne_eqb d.site s ne)
-
-came_at_stamp : (t : Sites) (d : Delivery) (s k : ℕ) → held_stamp (came_at t d.site d.version s k) ≡ max (held_stamp (t s k)) (way_of s k d)
-came_at_stamp t d s k =
-    ⊎_elim
-    (λ e. ap held_stamp (came_at_here t d.site d.version s k e) ∙ came_stamp (t s) d.version k
-    ∙ ap (λ (n : ℕ). max (held_stamp (t s k)) n) (sym (way_here s k d (sym e))))
-    (λ ne. let same = ap held_stamp (came_at_there t d.site d.version s k ne) in omega (arith, same, way_there s k d (λ e. ne (sym e))))
-    (cases_eq s d.site)
+came_stamp : (t : Sites) (d : Delivery) (s k : ℕ) → held_stamp (came_at t d.site d.version s k) ≡ max (held_stamp (t s k)) (way_of s k d)
+came_stamp t d s k = simp cond_at (grind (arith, nat_tests))
 
 -- registers after deliveries: the stamps
 pub delivered_stamp : (t : Sites) (xs : List Delivery) (s k : ℕ) → held_stamp (delivered t xs s k) ≡ max (held_stamp (t s k)) (on_the_way s k xs)
 delivered_stamp t [] s k = omega arith
-delivered_stamp t (d ∷ xs) s k = omega (arith, delivered_stamp (came_at t d.site d.version) xs s k, came_at_stamp t d s k)
+delivered_stamp t (d ∷ xs) s k = omega (arith, delivered_stamp (came_at t d.site d.version) xs s k, came_stamp t d s k)
 
 -- and what they hold
 pub delivered_one : (t : Sites) (xs : List Delivery) (s k : ℕ) (w : Version) → delivered t xs s k ≡ Some w
     → (t s k ≡ Some w) ⊎ ((d : Delivery) × In d xs × (w ≡ d.version) × (d.site ≡ s) × (w.key ≡ k))
 delivered_one t [] s k w e = inl e
 delivered_one t (d ∷ xs) s k w e =
-    ⊎_elim here (λ r. inr (r.0, inr r.1, r.2, r.3, r.4)) (delivered_one (came_at t d.site d.version) xs s k w e)
+    ⊎_elim
+    (λ at. ⊎_elim (λ old. inl old) (λ new. inr (d, inl refl, new.0, new.1, ap (λ (x : Version). x.key) new.0 ∙ new.2)) (came_one t d s k w at))
+    (λ r. inr (r.0, inr r.1, r.2, r.3, r.4)) (delivered_one (came_at t d.site d.version) xs s k w e)
+
+-- registers after a put: the stamps
+pub put_stamp : (ts : List ℕ) (site : ℕ) (v : Version) (t : Sites) (s k : ℕ) → s < sites
+    → held_stamp (put_now ts site v t s k) ≡ max (held_stamp (t s k)) (cond (line_time ts site s == 0) (stamp_of k v) 0)
+put_stamp ts site v t s k h = at (line_time ts site s)
   where
-    here : came_at t d.site d.version s k ≡ Some w
-        → (t s k ≡ Some w) ⊎ ((x : Delivery) × In x (d ∷ xs) × (w ≡ x.version) × (x.site ≡ s) × (w.key ≡ k))
-    here f =
-        ⊎_elim
-        (λ at. ⊎_elim (λ old. inl old) (λ new. inr (d, inl refl, new.0, sym at, ap (λ (x : Version). x.key) new.0 ∙ new.1))
-        (came_one (t s) d.version k w (sym (came_at_here t d.site d.version s k at) ∙ f)))
-        (λ ne. inl (sym (came_at_there t d.site d.version s k ne) ∙ f)) (cases_eq s d.site)
+    at : (line : ℕ) → held_stamp (cond (nat_lt s sites && line == 0) (came_to (t s) v) (t s) k) ≡ max (held_stamp (t s k)) (cond (line == 0) (stamp_of k v) 0)
+    at line = simp cond_at (grind (arith, nat_tests))
+
+pub put_highest : (ts : List ℕ) (site : ℕ) (v : Version) (t : Sites) (s : ℕ) → s < sites → line_time ts site s ≡ 0
+    → v.stamp.number ≤ held_stamp (put_now ts site v t s v.key)
+put_highest ts site v t s h near = at (line_time ts site s) near (put_stamp ts site v t s v.key h)
+  where
+    at : (line : ℕ) → line ≡ 0 → held_stamp (put_now ts site v t s v.key) ≡ max (held_stamp (t s v.key)) (cond (line == 0) (stamp_of v.key v) 0)
+        → v.stamp.number ≤ held_stamp (put_now ts site v t s v.key)
+    at line z e = let own = stamp_of_own v.key v refl in let all = cond-true (line == 0) (stamp_of v.key v) 0 (eq-eqb line 0 z) in omega arith
+
+-- and what they hold
+pub put_one : (ts : List ℕ) (site : ℕ) (v : Version) (t : Sites) (s k : ℕ) (w : Version) → put_now ts site v t s k ≡ Some w
+    → (t s k ≡ Some w) ⊎ ((w ≡ v) × (v.key ≡ k) × (line_time ts site s ≡ 0))
+put_one ts site v t s k w e = at (line_time ts site s) e
+  where
+    at : (line : ℕ) → cond (nat_lt s sites && line == 0) (came_to (t s) v) (t s) k ≡ Some w → (t s k ≡ Some w) ⊎ ((w ≡ v) × (v.key ≡ k) × (line ≡ 0))
+    at line f = let g = simp cond_at at f in grind (arith, nat_tests)
 
 -- what is on its way: two lists in a row, lowered, and a list parted by a test
-pub way_append : (s k : ℕ) (xs ys : List Delivery) → on_the_way s k (xs ++ ys) ≡ max (on_the_way s k xs) (on_the_way s k ys)
+way_append : (s k : ℕ) (xs ys : List Delivery) → on_the_way s k (xs ++ ys) ≡ max (on_the_way s k xs) (on_the_way s k ys)
 way_append s k [] ys = omega arith
 way_append s k (x ∷ xs) ys = omega (arith, way_append s k xs ys)
 
-pub way_lowered : (s k : ℕ) (xs : List Delivery) → on_the_way s k (map lowered xs) ≡ on_the_way s k xs
+way_lowered : (s k : ℕ) (xs : List Delivery) → on_the_way s k (map lowered xs) ≡ on_the_way s k xs
 way_lowered s k [] = refl
 way_lowered s k (x ∷ xs) = ap (λ (n : ℕ). max (way_of s k x) n) (way_lowered s k xs)
 
-pub way_parted : (p : Delivery → Bool) (s k : ℕ) (xs : List Delivery)
+way_parted : (p : Delivery → Bool) (s k : ℕ) (xs : List Delivery)
     → on_the_way s k xs ≡ max (on_the_way s k (filter p xs)) (on_the_way s k (filter (λ d. not (p d)) xs))
 way_parted p s k [] = omega arith
 way_parted p s k (x ∷ xs) =
     let rest = way_parted p s k xs in
-    let stay = filter (λ d. not (p d)) xs in
-    ⊎_elim
-    (λ t. let a = ap (on_the_way s k) (cond-true (p x) (x ∷ filter p xs) (filter p xs) t) in
-    let b = ap (on_the_way s k) (cond-false (not (p x)) (x ∷ stay) stay (not_from_true (p x) t)) in omega (arith, rest, a, b))
-    (λ f. let a = ap (on_the_way s k) (cond-false (p x) (x ∷ filter p xs) (filter p xs) f) in
-    let b = ap (on_the_way s k) (cond-true (not (p x)) (x ∷ stay) stay (not_from_false (p x) f)) in omega (arith, rest, a, b))
-    (cases_Bool (p x))
+    let keep : Bool → List Delivery → List Delivery = λ b l. cond b (x ∷ l) l in
+    elim (p x) as (λ b. on_the_way s k (x ∷ xs) ≡ max (on_the_way s k (keep b (filter p xs))) (on_the_way s k (keep (not b) (filter (λ d. not (p d)) xs)))) [
+      | true ↦ omega arith
+      | false ↦ omega arith
+    ]
 
 -- each member of a list is on its way
 pub way_member : (s k : ℕ) (d : Delivery) (xs : List Delivery) → In d xs → d.site ≡ s → d.version.key ≡ k → d.version.stamp.number ≤ on_the_way s k xs
 way_member s k d [] i es ek = absurd i
-way_member s k d (x ∷ xs) (inl e) es ek =
-    let here = ap (way_of s k) (sym e) ∙ way_here s k d es ∙ stamp_of_own k d.version ek in omega (arith, here)
+way_member s k d (x ∷ xs) (inl e) es ek = let here = ap (way_of s k) e in grind (arith, nat_tests)
 way_member s k d (x ∷ xs) (inr i) es ek = omega (arith, way_member s k d xs i es ek)
 
 -- a tick leaves forecasts as they are
@@ -130,56 +126,42 @@ tick_forecast t ds s k =
     omega (arith, delivered_stamp t (filter has_come (map lowered ds)) s k, way_parted has_come s k (map lowered ds), way_lowered s k ds)
 
 -- what is sent to a site later is on its way there alone
-later_way : (ticks n : ℕ) (v : Version) (s k : ℕ) → (ticks ≢ 0) → on_the_way s k (sent_later ticks n v) ≡ way_of s k (record { version = v; site = n; left = ticks })
-later_way ticks n v s k ne = ap (on_the_way s k) (later_one ticks n v ne) ∙ omega arith
+later_way : (ticks n : ℕ) (v : Version) (s k : ℕ) → on_the_way s k (sent_later ticks n v) ≡ cond (n == s && not (ticks == 0)) (stamp_of k v) 0
+later_way ticks n v s k =
+    cond_both (ticks == 0) [] (record { version = v; site = n; left = ticks } ∷ []) (λ l. on_the_way s k l ≡ cond (n == s && not (ticks == 0)) (stamp_of k v) 0)
+    (λ e. grind (arith, nat_tests)) (λ e. grind (arith, nat_tests))
 
-later_other : (ticks n : ℕ) (v : Version) (s k : ℕ) → (n ≢ s) → on_the_way s k (sent_later ticks n v) ≡ 0
-later_other ticks n v s k ne =
-    ⊎_elim (λ e. ap (on_the_way s k) (later_none ticks n v e))
-    (λ far. later_way ticks n v s k far ∙ way_there s k (record { version = v; site = n; left = ticks }) ne) (cases_eq ticks 0)
-
--- nothing is on its way to a site where the line takes no tick
-sent_near : (n : ℕ) (ts : List ℕ) (site : ℕ) (v : Version) (s k : ℕ) → line_time ts site s ≡ 0 → on_the_way s k (sent_below n ts site v) ≡ 0
+-- of the sites below n, a put's version is on its way to those where the line takes ticks
+sent_way : (n : ℕ) (ts : List ℕ) (site : ℕ) (v : Version) (s k : ℕ)
+    → on_the_way s k (sent_below n ts site v) ≡ cond (nat_lt s n && not (line_time ts site s == 0)) (stamp_of k v) 0
 unfolding sent_below
-sent_near zero ts site v s k z = refl
-sent_near (suc n) ts site v s k z =
-    let all = way_append s k (sent_below n ts site v) (sent_later (line_time ts site n) n v) in
-    let one = ⊎_elim (λ e. ap (on_the_way s k) (later_none (line_time ts site n) n v (ap (line_time ts site) e ∙ z))) (λ ne. later_other (line_time ts site n) n v s k ne) (cases_eq n s) in
-    omega (arith, all, one, sent_near n ts site v s k z)
-
--- nor to one that is not below n
-sent_past : (n : ℕ) (ts : List ℕ) (site : ℕ) (v : Version) (s k : ℕ) → n ≤ s → on_the_way s k (sent_below n ts site v) ≡ 0
-unfolding sent_below
-sent_past zero ts site v s k h = refl
-sent_past (suc n) ts site v s k h =
-    let all = way_append s k (sent_below n ts site v) (sent_later (line_time ts site n) n v) in
-    let one = later_other (line_time ts site n) n v s k (omega (arith, h)) in
-    omega (arith, all, one, sent_past n ts site v s k (omega (arith, h)))
-
--- to the others the version is on its way
-sent_far : (n : ℕ) (ts : List ℕ) (site : ℕ) (v : Version) (s k : ℕ) → s < n → (line_time ts site s ≢ 0)
-    → on_the_way s k (sent_below n ts site v) ≡ stamp_of k v
-unfolding sent_below
-sent_far zero ts site v s k h far = absurd (omega (arith, h))
-sent_far (suc n) ts site v s k h far =
-    let all = way_append s k (sent_below n ts site v) (sent_later (line_time ts site n) n v) in
-    ⊎_elim
-    (λ e. let one =
-    later_way (line_time ts site n) n v s k (λ z. far (ap (line_time ts site) (sym e) ∙ z))
-    ∙ way_here s k (record { version = v; site = n; left = line_time ts site n }) e in
-    omega (arith, all, one, sent_past n ts site v s k (omega (arith, e))))
-    (λ ne. omega (arith, all, later_other (line_time ts site n) n v s k ne, sent_far n ts site v s k (omega (arith, h, ne)) far)) (cases_eq n s)
+sent_way zero ts site v s k = grind (arith, nat_tests)
+sent_way (suc n) ts site v s k =
+    at (line_time ts site) _ _ _ (way_append s k (sent_below n ts site v) (sent_later (line_time ts site n) n v)) (sent_way n ts site v s k)
+    (later_way (line_time ts site n) n v s k)
+  where
+    at : (line : ℕ → ℕ) (all below own : ℕ) → all ≡ max below own → below ≡ cond (nat_lt s n && not (line s == 0)) (stamp_of k v) 0
+        → own ≡ cond (n == s && not (line n == 0)) (stamp_of k v) 0 → all ≡ cond (nat_lt s (suc n) && not (line s == 0)) (stamp_of k v) 0
+    at line all below own p q r = grind (arith, nat_tests)
 
 -- an accepted put raises every site's forecast of its key to its stamp
 pub put_forecast : (ts : List ℕ) (site : ℕ) (v : Version) (t : Sites) (ds : List Delivery) (s k : ℕ) → s < sites
     → forecast (put_now ts site v t) (ds ++ sent_below sites ts site v) s k ≡ max (forecast t ds s k) (stamp_of k v)
 put_forecast ts site v t ds s k h =
-    let all = way_append s k ds (sent_below sites ts site v) in
-    ⊎_elim
-    (λ near. let reg = ap (λ (f : Table). held_stamp (f k)) (put_here sites ts site v t s h near) ∙ came_stamp (t s) v k in
-    omega (arith, all, reg, sent_near sites ts site v s k near))
-    (λ far. let reg = ap (λ (f : Table). held_stamp (f k)) (put_far sites ts site v t s far) in
-    omega (arith, all, reg, sent_far sites ts site v s k h far)) (cases_eq (line_time ts site s) 0)
+    at (line_time ts site s) _ _ _ (put_stamp ts site v t s k h) (way_append s k ds (sent_below sites ts site v)) (sent_way sites ts site v s k)
+  where
+    at : (line held all sent : ℕ) → held ≡ max (held_stamp (t s k)) (cond (line == 0) (stamp_of k v) 0) → all ≡ max (on_the_way s k ds) sent
+        → sent ≡ cond (nat_lt s sites && not (line == 0)) (stamp_of k v) 0 → max held all ≡ max (forecast t ds s k) (stamp_of k v)
+    at line held all sent p q r = grind (arith, nat_tests)
+
+-- what is sent to a site later
+from_later : (ticks n : ℕ) (v : Version) (d : Delivery) → In d (sent_later ticks n v) → (d ≡ record { version = v; site = n; left = ticks }) × (ticks ≢ 0)
+from_later ticks n v d i =
+    cond_both (ticks == 0) [] (x ∷ []) (λ l. In d l → (d ≡ x) × (ticks ≢ 0)) (λ e j. absurd j)
+    (λ e j. (⊎_elim (λ s. s) (λ z. absurd z) j, eqb-false ticks 0 e)) i
+  where
+    x : Delivery
+    x = record { version = v; site = n; left = ticks }
 
 -- the deliveries of a put: of its version, to sites below n, with the whole line time left
 pub from_sent : (n : ℕ) (ts : List ℕ) (site : ℕ) (v : Version) (d : Delivery) → In d (sent_below n ts site v)
@@ -188,16 +170,9 @@ unfolding sent_below
 from_sent zero ts site v d i = absurd i
 from_sent (suc n) ts site v d i =
     ⊎_elim (λ l. let r = from_sent n ts site v d l in (r.0, omega (arith, r.1), r.2, r.3))
-    (λ r. ⊎_elim (λ e. absurd (subst (λ (l : List Delivery). In d l) (later_none (line_time ts site n) n v e) r))
-    (λ ne. ⊎_elim (one ne) (λ x. absurd x) (subst (λ (l : List Delivery). In d l) (later_one (line_time ts site n) n v ne) r)) (cases_eq (line_time ts site n) 0))
+    (λ r. let q = from_later (line_time ts site n) n v d r in
+    subst (λ (x : Delivery). (x.version ≡ v) × (x.site < suc n) × (x.left ≡ line_time ts site x.site) × (x.left ≢ 0)) (sym q.0) (refl, omega arith, refl, q.1))
     (in_either d (sent_below n ts site v) (sent_later (line_time ts site n) n v) i)
-  where
-    one : (line_time ts site n ≢ 0) → d ≡ record { version = v; site = n; left = line_time ts site n }
-        → (d.version ≡ v) × (d.site < suc n) × (d.left ≡ line_time ts site d.site) × (d.left ≢ 0)
-    one ne e =
-        let at = ap (λ (x : Delivery). x.site) e in
-        let long = ap (λ (x : Delivery). x.left) e in
-        (ap (λ (x : Delivery). x.version) e, omega (arith, at), long ∙ ap (line_time ts site) (sym at), λ z. ne (sym long ∙ z))
 
 -- and there is one to every site below n where the line takes ticks
 pub in_sent : (n : ℕ) (ts : List ℕ) (site : ℕ) (v : Version) (s : ℕ) → s < n → (line_time ts site s ≢ 0)
@@ -206,8 +181,9 @@ unfolding sent_below
 in_sent zero ts site v s h far = absurd (omega (arith, h))
 in_sent (suc n) ts site v s h far =
     ⊎_elim
-    (λ e. in_right (record { version = v; site = s; left = line_time ts site s }) (sent_below n ts site v) (sent_later (line_time ts site n) n v)
-    (subst (λ (j : ℕ). In (record { version = v; site = s; left = line_time ts site s }) (sent_later (line_time ts site j) j v)) e
-    (subst (λ (l : List Delivery). In (record { version = v; site = s; left = line_time ts site s }) l) (sym (later_one (line_time ts site s) s v far)) (inl refl))))
-    (λ ne. in_left (record { version = v; site = s; left = line_time ts site s }) (sent_below n ts site v) (sent_later (line_time ts site n) n v)
-    (in_sent n ts site v s (omega (arith, h, ne)) far)) (cases_eq s n)
+    (λ e. in_right (sent s) (sent_below n ts site v) (sent_later (line_time ts site n) n v)
+    (subst (λ (j : ℕ). In (sent s) (sent_later (line_time ts site j) j v)) e (subst (λ (l : List Delivery). In (sent s) l) (sym (later_one (line_time ts site s) s v far)) (inl refl))))
+    (λ ne. in_left (sent s) (sent_below n ts site v) (sent_later (line_time ts site n) n v) (in_sent n ts site v s (omega (arith, h, ne)) far)) (cases_eq s n)
+  where
+    sent : ℕ → Delivery
+    sent j = record { version = v; site = j; left = line_time ts site j }

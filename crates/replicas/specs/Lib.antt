@@ -6,6 +6,7 @@ pub mod Pending
 pub mod Replicas
 pub mod Standing
 pub mod States
+pub mod Times
 pub mod Soundness
 pub mod Delivering
 pub mod Forecasting

@@ -1,7 +1,6 @@
 -- Line times: how many ticks a version takes from site to site.
 use Rattle.std.specs.Prelude.{◌≡◌, ℕ, ◌+◌, ◌-◌, ◌≤◌, min, max, cond, List, ◌==◌, slice_index}
 use Rattle.replicas.specs.Numbers.{line_limit}
-use Rattle.replicas.specs.declared.line_times.LineTimes.{LineTimes}
 
 -- the place of a pair of sites, lower site first, in the order 01, 02, 03, 12, 13, 23
 abbrev pub pair_place : ℕ → ℕ → ℕ
@@ -19,10 +18,6 @@ pub record PairsInOrder : Type 0 where
 -- the line time between two sites, of the times of the six pairs; 0 from a site to itself
 abbrev pub line_time : List ℕ → ℕ → ℕ → ℕ
 line_time times a b = cond (a == b) 0 (slice_index times (pair_place (min a b) (max a b)))
-
--- the times of the six pairs
-abbrev pub times_of : LineTimes → List ℕ
-times_of l = l.times
 
 -- line times are 0 to 16
 abbrev pub TimesFit : List ℕ → Type 0

@@ -2,17 +2,13 @@
 use Rattle.std.specs.Prelude.{ℕ, List}
 use Rattle.store.specs.Holding.{registered_at}
 use Rattle.replicas.specs.Pending.{pending}
-use Rattle.replicas.specs.Replicas.{ReplicasState, forecast}
+use Rattle.replicas.specs.Replicas.{ReplicasState}
 use Rattle.replicas.specs.declared.delivery.Delivery.{Delivery}
 use Rattle.replicas.specs.declared.network.Network.{Network}
 
 -- what is on its way
 abbrev pub carries : Network → List Delivery
 carries n = pending n.deliveries
-
--- the stamp that a site's register will have once all that is on its way there has come
-abbrev pub forecast_of : Network → ℕ → ℕ → ℕ
-forecast_of n site key = forecast (registered_at n.registers) (carries n) site key
 
 -- the registers and deliveries, with line times
 abbrev pub network_state : Network → List ℕ → ReplicasState

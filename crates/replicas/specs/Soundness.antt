@@ -1,17 +1,16 @@
 -- Replicas keep the laws of every store.
 use Rattle.std.specs.Prelude.{◌≡◌, ℕ, ◌+◌, ◌-◌, ◌<◌, ◌≤◌, max, true, not, ◌&&◌, ◌⊎◌, List, [], ◌∷◌, ◌++◌, map, length, Some, None, filter, Option, ◌==◌, ◌≢◌, nat_lt, refl}
 use Rattle.std.proofs.Common.{inl, inr, ⊎_elim, sym, ap, subst, ◌∙◌, arith}
-use Rattle.std.specs.List.{AllByRecursion}
 use Rattle.std.proofs.lemmas.List.Filters.{length-filter_both}
 use Rattle.std.proofs.lemmas.List.{length-append, length-map}
-use Rattle.std.proofs.lemmas.Bool.{cases_eq, cases_lt, cond-true, cond_both, eqb-true, eqb-false, lt-ltb, and_parts, not-true}
+use Rattle.std.proofs.lemmas.Bool.{cond_both, eqb-true, eqb-false, and_parts, not-true}
+use Rattle.std.proofs.lemmas.Bool.Decides.{nat_tests}
 use Rattle.stamps.specs.Numbers.{keys, sites}
-use Rattle.stamps.specs.declared.refusal.Bar.{Bar}
 use Rattle.versions.specs.Joins.{In}
 use Rattle.versions.specs.Versions.{is_version}
 use Rattle.versions.specs.declared.version.Version.{Version}
 use Rattle.versions.proofs.Versioning.{parts_of_version}
-use Rattle.causal.specs.Tables.{Table, held_stamp}
+use Rattle.causal.specs.Tables.{held_stamp}
 use Rattle.store.specs.Kinds.{Sound, EachStepHasOneOutcome, RefusedKeeps}
 use Rattle.store.specs.Meanings.{InPutRange, Lawful, New, Passed, Took}
 use Rattle.store.specs.Registers.{Sites, all_held_at, came_at, came_to, highest_of_key, is_placed}
@@ -20,25 +19,21 @@ use Rattle.store.proofs.Making.{put_means, put_keeps, one_put, refused_left}
 use Rattle.store.proofs.Registering.{came_at_placed, came_placed, placed_key, placed_version}
 use Rattle.replicas.specs.Lines.{line_time, TimesFit}
 use Rattle.replicas.specs.Numbers.{delivery_limit, line_limit, places_wanted}
-use Rattle.replicas.specs.Replicas.{Addressed, ReplicasGood, ReplicasState, after_put, after_tick, are_deliveries, delivered, deliveries_bar, forecast, has_come, is_delivery, lowered, most_left, on_the_way, put_now, replicas_kept, replicas_kind, replicas_mean, replicas_start, sent_below, versions_of}
+use Rattle.replicas.specs.Replicas.{ReplicasGood, ReplicasState, after_put, after_tick, are_deliveries, delivered, deliveries_bar, forecast, has_come, is_delivery, lowered, most_left, on_the_way, put_now, replicas_kept, replicas_kind, replicas_mean, replicas_start, sent_below, versions_of}
 use Rattle.replicas.specs.declared.delivery.Delivery.{Delivery}
-use Rattle.replicas.specs.Delivering.{Fit, all_addressed, fit_all, fit_member, fit_parts}
-use Rattle.replicas.specs.Forecasting.{came_one, delivered_one, from_kept, from_sent, put_forecast, stamp_of_other, stamp_of_own, stamp_of, tick_forecast, way_member}
-use Rattle.replicas.specs.Sending.{put_far, put_here, sent_three}
+use Rattle.replicas.specs.Delivering.{Fit, fit_all, fit_member, fit_parts}
+use Rattle.replicas.specs.Forecasting.{delivered_one, from_kept, from_sent, put_forecast, put_one, stamp_of_other, stamp_of_own, stamp_of, tick_forecast, way_member}
+use Rattle.replicas.specs.Sending.{sent_three}
 
 -- deliveries with no tick left are none
-pub most_none : (ds : List Delivery) → are_deliveries ds ≡ true → most_left ds ≡ 0 → ds ≡ []
+most_none : (ds : List Delivery) → are_deliveries ds ≡ true → most_left ds ≡ 0 → ds ≡ []
 most_none [] e z = refl
 most_none (x ∷ ds) e z = absurd (omega (arith, z, (fit_parts x (and_parts (is_delivery x) (are_deliveries ds) e).0).more))
 
 -- what is on its way is among the versions of deliveries
 way_under : (s k : ℕ) (ds : List Delivery) → on_the_way s k ds ≤ highest_of_key k (versions_of ds)
 way_under s k [] = omega arith
-way_under s k (d ∷ ds) =
-    let rest = way_under s k ds in
-    cond_both (d.site == s && d.version.key == k) d.version.stamp.number 0 (λ n. max n (on_the_way s k ds) ≤ highest_of_key k (versions_of (d ∷ ds)))
-    (λ e. omega (arith, rest, stamp_of_own k d.version (eqb-true d.version.key k (and_parts (d.site == s) (d.version.key == k) e).1)))
-    (λ e. omega (arith, rest))
+way_under s k (d ∷ ds) = let rest = way_under s k ds in grind (arith, nat_tests)
 
 -- a register's stamp is among those of what is held
 held_under : (t : Sites) (s k : ℕ) → s < sites → k < keys → is_placed k (t s k) ≡ true → held_stamp (t s k) ≤ highest_of_key k (all_held_at t)
@@ -102,17 +97,11 @@ lawful s g =
 
 -- line times are within the limit
 line_fits : (ts : List ℕ) → TimesFit ts → (a b : ℕ) → line_time ts a b ≤ line_limit
-line_fits ts fit a b = cond_both (a == b) 0 _ (λ n. n ≤ line_limit) (λ e. omega arith) (λ e. fit _)
+line_fits ts fit a b = grind (arith, nat_tests, fit)
 
 -- no bar: there is room for three
 unbarred : (ds : List Delivery) → deliveries_bar ds ≡ None → length ds + places_wanted ≤ delivery_limit
-unbarred ds e =
-    ⊎_elim
-    (λ l. absurd (some_none (sym (cond-true (nat_lt (delivery_limit - length ds) places_wanted) (Some (record { refusal = _; depth = 0 })) None (lt-ltb (delivery_limit - length ds) places_wanted l)) ∙ e)))
-    (λ g. omega (arith, g)) (cases_lt (delivery_limit - length ds) places_wanted)
-  where
-    some_none : {b : Bar} → ◌≡◌ {A = Option Bar} (Some b) None → ⊥
-    some_none {b} f = let z : ◌≡◌ {A = ℕ} 0 1 = cc in omega arith
+unbarred ds e = grind (arith, nat_tests)
 
 -- an accepted put keeps what holds of replicas
 pub put_good : (s : ReplicasState) (site : ℕ) (v : Version) → ReplicasGood s → InPutRange site v → deliveries_bar s.deliveries ≡ None → ReplicasGood (after_put s site v)
@@ -171,11 +160,8 @@ took s site v g within free =
 
     held : (w : Version) (j k : ℕ) → j < sites → k < keys → put_now s.times site v t j k ≡ Some w → (w ≡ v) ⊎ In w (replicas_kept s)
     held w j k hj hk e =
-        ⊎_elim
-        (λ near. ⊎_elim (λ old. inr (in_left w (all_held_at t) (versions_of ds) (in_held_at sites t j k w hj hk old))) (λ new. inl new.0)
-        (came_one (t j) v k w (ap (λ (f : Table). f k) (sym (put_here sites s.times site v t j hj near)) ∙ e)))
-        (λ far. inr (in_left w (all_held_at t) (versions_of ds) (in_held_at sites t j k w hj hk (ap (λ (f : Table). f k) (sym (put_far sites s.times site v t j far)) ∙ e))))
-        (cases_eq (line_time s.times site j) 0)
+        ⊎_elim (λ old. inr (in_left w (all_held_at t) (versions_of ds) (in_held_at sites t j k w hj hk old))) (λ new. inl new.0)
+        (put_one s.times site v t j k w e)
 
     peak : (key : ℕ) → key < keys → highest_of_key key (replicas_kept (after_put s site v)) ≡ max (highest_of_key key (replicas_kept s)) (stamp_of key v)
     peak key h =
@@ -202,16 +188,18 @@ stay_most (d ∷ ds) =
     cond_both (not (has_come (lowered d))) (lowered d ∷ filter (λ x. not (has_come x)) (map lowered ds)) (filter (λ x. not (has_come x)) (map lowered ds))
     (λ l. most_left l ≤ most_left (d ∷ ds) - 1) (λ e. omega (arith, rest)) (λ e. omega (arith, rest))
 
--- registers keep their places when deliveries come
-delivered_placed : (t : Sites) (ds : List Delivery) → ((s k : ℕ) → is_placed k (t s k) ≡ true) → AllByRecursion Addressed ds → (s k : ℕ) → is_placed k (delivered t ds s k) ≡ true
-delivered_placed t [] p a = p
-delivered_placed t (d ∷ ds) p a = delivered_placed (came_at t d.site d.version) ds (came_at_placed t d.site d.version p a.0.1) a.1
+-- registers keep their places when deliveries of versions come
+delivered_placed : (t : Sites) (ds : List Delivery) → ((s k : ℕ) → is_placed k (t s k) ≡ true) → ((d : Delivery) → In d ds → is_version d.version ≡ true)
+    → (s k : ℕ) → is_placed k (delivered t ds s k) ≡ true
+delivered_placed t [] p are = p
+delivered_placed t (d ∷ ds) p are =
+    delivered_placed (came_at t d.site d.version) ds (came_at_placed t d.site d.version p (are d (inl refl))) (λ x i. are x (inr i))
 
 -- a tick keeps what holds of replicas
 pub tick_good : (s : ReplicasState) → ReplicasGood s → ReplicasGood (after_tick s)
 tick_good s g =
     record {
-      placed = delivered_placed s.registers (filter has_come (map lowered ds)) g.placed (all_addressed (filter has_come (map lowered ds)) come);
+      placed = delivered_placed s.registers (filter has_come (map lowered ds)) g.placed come;
       deliveries_fit = fit_all (filter (λ x. not (has_come x)) (map lowered ds)) stay;
       few = omega (arith, g.few, length-filter_both has_come (λ x. not (has_come x)) (λ x. refl) (map lowered ds), length-map ds lowered);
       times_fit = g.times_fit;
@@ -221,10 +209,8 @@ tick_good s g =
     ds : List Delivery
     ds = s.deliveries
 
-    come : (d : Delivery) → In d (filter has_come (map lowered ds)) → Addressed d
-    come d i =
-        let r = from_come ds d i in
-        let f = fit_member ds r.0 g.deliveries_fit r.1 in subst Addressed (sym r.2) (f.site, f.version)
+    come : (d : Delivery) → In d (filter has_come (map lowered ds)) → is_version d.version ≡ true
+    come d i = let r = from_come ds d i in ap (λ (x : Delivery). is_version x.version) r.2 ∙ (fit_member ds r.0 g.deliveries_fit r.1).version
 
     stay : (d : Delivery) → In d (filter (λ x. not (has_come x)) (map lowered ds)) → Fit d
     stay d i =
@@ -292,10 +278,14 @@ pub start_good : (ts : List ℕ) → TimesFit ts → ReplicasGood (replicas_star
 start_good ts fit =
     record { placed = λ site key. refl; deliveries_fit = refl; few = omega arith; times_fit = fit; forecasts_agree = λ site key h. refl }
 
-pub start_new : (ts : List ℕ) → New (replicas_mean (replicas_start ts))
-start_new ts =
-    let none = ap (λ (vs : List Version). vs ++ []) (held_at_none sites (λ site key. None) (λ site key. refl)) in
-    record { nothing_kept = none; no_peaks = λ key h. ap (highest_of_key key) none; no_wait = refl }
+pub start_new : (ts : List ℕ) (s : ReplicasState) → s ≡ replicas_start ts → New (replicas_mean s)
+start_new ts s e = subst (λ (x : ReplicasState). New (replicas_mean x)) (sym e) new
+  where
+    none : replicas_kept (replicas_start ts) ≡ []
+    none = ap (λ (vs : List Version). vs ++ []) (held_at_none sites (λ site key. None) (λ site key. refl))
+
+    new : New (replicas_mean (replicas_start ts))
+    new = record { nothing_kept = none; no_peaks = λ key h. ap (highest_of_key key) none; no_wait = refl }
 
 pub replicas_one : EachStepHasOneOutcome replicas_kind
 replicas_one =

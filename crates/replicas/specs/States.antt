@@ -1,5 +1,5 @@
 -- The state of the replicas of the code.
-use Rattle.replicas.specs.Lines.{times_of}
+use Rattle.replicas.specs.Times.{times_of}
 use Rattle.replicas.specs.Network.{network_state}
 use Rattle.replicas.specs.Replicas.{ReplicasState}
 use Rattle.replicas.specs.declared.replicas.Replicas.{Replicas}

@@ -1,14 +1,81 @@
-ghost use Rattle.std.specs.Prelude.{◌≡◌, ◌≤◌, length};
+ghost use Rattle.std.specs.Prelude.{◌≡◌, ℕ, ◌<◌, not, [], ◌∷◌, ◌++◌, ◌↔◌, IsTrue, map, length, filter};
+ghost use Rattle.store.specs.Holding.{registered_at};
 ghost use Rattle.replicas.specs.Numbers.{delivery_limit};
+ghost use Rattle.replicas.specs.Pending.{pending};
+ghost use Rattle.replicas.specs.Replicas.{lowered, has_come, delivered, deliveries_bar};
 
 use crate::delivery::Delivery;
-use crate::limits::DELIVERY_LIMIT;
+use crate::limits::{DELIVERY_LIMIT, PLACES_WANTED};
+use stamps::refusal::{Bar, Refusal};
+use store::queue::Queue;
+use store::site_registers::SiteRegisters;
 
-// The pending deliveries: the first `len` places, in list order. The other places are no part of them.
+// The pending deliveries, in list order.
 #[derive(Clone, Copy)]
 pub(crate) struct Deliveries {
-    pub(crate) places: [Delivery; DELIVERY_LIMIT],
-    pub(crate) len: usize,
-    ghost sized: { length places ≡ delivery_limit },
-    ghost fits: { len ≤ delivery_limit },
+    list: Queue<Delivery, DELIVERY_LIMIT>,
+}
+
+impl Deliveries {
+    // Nothing on its way.
+    pub(crate) fn new() -> Deliveries
+        ensures { pending result ≡ [] }
+    {
+        Deliveries {
+            list: Queue::new(Delivery::filler()),
+        }
+    }
+
+    // What a put would be refused with: 32 while fewer than 3 places are free. Kept apart from the log's bar: another
+    // refusal at another limit, in one test each.
+    pub(crate) fn bar(&self) -> Option<Bar>
+        ensures { result ≡ deliveries_bar (pending self.now) }
+    {
+        if DELIVERY_LIMIT - self.list.len() < PLACES_WANTED {
+            Some(Bar::new(Refusal::DeliveriesFull))
+        } else {
+            None
+        }
+    }
+
+    // Whether nothing is on its way.
+    pub(crate) fn is_empty(&self) -> bool
+        ensures { IsTrue result ↔ (pending self.now ≡ []) }
+    {
+        self.list.is_empty()
+    }
+
+    // Adds a delivery at the end of the list.
+    pub(crate) fn add(&mut self, delivery: Delivery)
+        requires { length (pending self.old) < delivery_limit }
+        ensures { pending self.new ≡ pending self.old ++ delivery ∷ [] }
+    {
+        self.list.push(delivery);
+    }
+
+    // Takes one tick from each delivery.
+    pub(crate) fn lower(&mut self)
+        ensures { pending self.new ≡ map lowered (pending self.old) }
+    {
+        self.list.update(|delivery| delivery.tick());
+    }
+
+    // Delivers what has come into the registers, in list order.
+    pub(crate) fn deliver(&self, registers: &mut SiteRegisters)
+        ensures { (s k : ℕ) → registered_at registers.new s k
+            ≡ delivered (registered_at registers.old) (filter has_come (pending self.now)) s k }
+    {
+        for delivery in self.list.as_slice() {
+            if delivery.has_come() {
+                registers.take(delivery.site, &delivery.version);
+            }
+        }
+    }
+
+    // Removes what has come.
+    pub(crate) fn remove(&mut self)
+        ensures { pending self.new ≡ filter (λ d. not (has_come d)) (pending self.old) }
+    {
+        self.list.retain(|delivery| !delivery.has_come());
+    }
 }

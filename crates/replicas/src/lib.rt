@@ -5,8 +5,6 @@ mod deliveries;
 mod delivery;
 pub mod limits;
 pub mod line_times;
-pub mod lines;
 mod network;
-mod pending;
 pub mod replicas;
 pub mod serve;

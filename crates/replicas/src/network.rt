@@ -1,19 +1,17 @@
 ghost use Rattle.std.specs.Prelude.{◌≡◌, ℕ, ◌+◌, ◌<◌, ◌≤◌, List, ◌++◌, length};
-ghost use Rattle.std.specs.List.{AllByRecursion};
 ghost use Rattle.store.specs.Holding.{registered_at};
-ghost use Rattle.store.specs.Meanings.{InPutRange};
-ghost use Rattle.replicas.specs.Lines.{times_of};
+ghost use Rattle.replicas.specs.Times.{times_of};
 ghost use Rattle.replicas.specs.Network.{network_state};
 ghost use Rattle.replicas.specs.Numbers.{delivery_limit, places_wanted};
 ghost use Rattle.replicas.specs.Pending.{pending};
-ghost use Rattle.replicas.specs.Replicas.{Addressed, sent_now, sent_later, after_put, after_tick, replicas_start};
+ghost use Rattle.replicas.specs.Replicas.{sent_now, sent_later, after_put, after_tick, replicas_start};
 
 use crate::deliveries::Deliveries;
 use crate::delivery::Delivery;
 use crate::line_times::LineTimes;
-use stamps::limits::SITES;
+use stamps::below::Site;
 use store::site_registers::SiteRegisters;
-use versions::version::Version;
+use versions::valid::ValidVersion;
 
 // The registers and what is on its way to them.
 #[derive(Clone, Copy)]
@@ -35,20 +33,18 @@ impl Network {
 
     // Sends a version from a site to every site upward: into the register now where the line time is 0, as it
     // is at the site itself, else by a delivery.
-    pub(crate) fn put(&mut self, times: &LineTimes, site: u32, version: &Version)
-        requires in_range { InPutRange site version.now }
+    pub(crate) fn put(&mut self, times: &LineTimes, site: Site, version: &ValidVersion)
         requires room { length (pending self.old.deliveries) + places_wanted ≤ delivery_limit }
         ensures { network_state self.new (times_of times.now)
             ≡ after_put (network_state self.old (times_of times.now)) site version.now }
     {
-        for to in 0..SITES {
+        for to in Site::all() {
             self.send(to, times.between(site, to), version);
         }
     }
 
     // Sends a version to a site: into its register now where no tick is left, else by a delivery.
-    fn send(&mut self, to: u32, ticks: u32, version: &Version)
-        requires in_range { InPutRange to version.now }
+    fn send(&mut self, to: Site, ticks: u32, version: &ValidVersion)
         requires room { 0 < ticks → length (pending self.old.deliveries) < delivery_limit }
         ensures now { (s k : ℕ) → registered_at self.new.registers s k ≡ sent_now ticks to version.now (registered_at self.old.registers) s k }
         ensures later { pending self.new.deliveries ≡ pending self.old.deliveries ++ sent_later ticks to version.now }
@@ -56,23 +52,20 @@ impl Network {
         if ticks == 0 {
             self.registers.take(to, version);
         } else {
-            let delivery = Delivery {
+            self.deliveries.add(Delivery {
                 version: *version,
                 site: to,
                 left: ticks,
-            };
-            self.deliveries.add(&delivery);
+            });
         }
     }
 
     // One tick: each delivery has one tick less; those at 0 are delivered in list order and removed.
     pub(crate) fn tick(&mut self)
-        requires { AllByRecursion Addressed (pending self.old.deliveries) }
         ensures { (ts : List ℕ) → network_state self.new ts ≡ after_tick (network_state self.old ts) }
     {
-        if self.deliveries.lower() {
-            self.deliveries.deliver(&mut self.registers);
-            self.deliveries.remove();
-        }
+        self.deliveries.lower();
+        self.deliveries.deliver(&mut self.registers);
+        self.deliveries.remove();
     }
 }

@@ -1,7 +1,6 @@
-ghost use Rattle.std.specs.Prelude.{◌≡◌, ℕ, ◌<◌, true};
-ghost use Rattle.stamps.specs.Numbers.{sites};
-ghost use Rattle.replicas.specs.Network.{carries, forecast_of};
-ghost use Rattle.replicas.specs.Replicas.{are_deliveries};
+ghost use Rattle.replicas.specs.Network.{network_state};
+ghost use Rattle.replicas.specs.Replicas.{ReplicasGood};
+ghost use Rattle.replicas.specs.Times.{times_of};
 
 use crate::line_times::LineTimes;
 use crate::network::Network;
@@ -11,6 +10,5 @@ use crate::network::Network;
 pub struct Replicas {
     pub(crate) network: Network,
     pub(crate) times: LineTimes,
-    ghost fit: { are_deliveries (carries network) ≡ true },
-    ghost agreeing: { (site key : ℕ) → site < sites → forecast_of network site key ≡ forecast_of network 0 key },
+    ghost good: { ReplicasGood (network_state network (times_of times)) },
 }

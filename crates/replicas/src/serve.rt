@@ -1,17 +1,17 @@
 ghost use Rattle.std.specs.Prelude.{◌≡◌};
-ghost use Rattle.store.specs.Kinds.{EachStepHasOneOutcome, RefusedKeeps};
 ghost use Rattle.store.specs.Meanings.{New};
 ghost use Rattle.replicas.specs.Arrivals.{ReplicasLaw};
-ghost use Rattle.replicas.specs.Lines.{times_of};
+ghost use Rattle.replicas.specs.Times.{times_of};
 ghost use Rattle.replicas.specs.Replicas.{replicas_kind, replicas_mean, replicas_start};
 ghost use Rattle.replicas.specs.States.{replicas_state};
-ghost use Rattle.replicas.specs.Soundness.{replicas_sound};
+ghost use Rattle.replicas.specs.Soundness.{replicas_sound, replicas_one, replicas_left};
 ghost use Rattle.replicas.specs.Standing.{replicas_good};
 
 use crate::line_times::LineTimes;
 use crate::network::Network;
 use crate::replicas::Replicas;
 use stamps::refusal::Refusal;
+use store::exact::Exact;
 use store::put_refusal::PutRefusal;
 use store::range::{check_ask, check_put};
 use store::store::Store;
@@ -40,8 +40,8 @@ impl Store for Replicas {
     ghost good = { replicas_good };
 
     fn ask(&mut self, site: u32, key: u32) -> Result<Option<Version>, Refusal> {
-        check_ask(site, key)?;
-        Ok(self.network.registers.read(site, key))
+        let spot = check_ask(site, key)?;
+        Ok(*self.network.registers.at(spot))
     }
 
     fn settled(&mut self) -> bool {
@@ -49,7 +49,7 @@ impl Store for Replicas {
     }
 
     fn put(&mut self, site: u32, version: Version) -> Result<(), PutRefusal> {
-        check_put(site, &version)?;
+        let (site, version) = check_put(site, &version)?;
         if let Some(bar) = self.network.deliveries.bar() {
             return Err(PutRefusal::Barring(bar));
         }
@@ -62,15 +62,12 @@ impl Store for Replicas {
     }
 }
 
-// Theorem: every step of replicas has one outcome. It has no code.
-pub fn replicas_have_one_outcome()
-    ensures { EachStepHasOneOutcome replicas_kind }
-{}
+// Every step of replicas has one outcome, and a refused put leaves them as they were.
+impl Exact for Replicas {
+    ghost one_outcome = { replicas_one };
 
-// Theorem: a refused put leaves the replicas as they were. It has no code.
-pub fn replicas_keep_when_refusing()
-    ensures { RefusedKeeps replicas_kind }
-{}
+    ghost keeps = { replicas_left };
+}
 
 // Theorem: after any puts and ticks from new, a site's register has the highest stamp of its key among what was
 // put there or delivered there. It has no code.

@@ -16,15 +16,15 @@ use Rattle.store.proofs.Keeping.{in_either}
 use Rattle.store.proofs.Registering.{taken_higher, taken_lower, came_here, came_there}
 use Rattle.shared_log.specs.Log.{LogState, log_start, after_put, after_tick, moved_on, lowest_at, log_kind, tail_bar, are_versions}
 use Rattle.shared_log.specs.Reading.{read_by, LatestOf, none_of_it, one_of_it, LogLaw}
-use Rattle.shared_log.specs.Coming.{came_append, came_all_same}
+use Rattle.shared_log.specs.Coming.{came_append}
 use Rattle.shared_log.specs.Logging.{low_within}
 use Rattle.shared_log.specs.Positioning.{lowest_at_most, lowest_at_reached, lowest_at_less}
-use Rattle.shared_log.specs.Tailing.{versions_in, versions_push, versions_take}
+use Rattle.shared_log.specs.Tailing.{versions_in, versions_push, versions_parts}
 
 -- the stamp of a version is above 0
 above_none : (v : Version) → is_version v ≡ true → 0 < v.stamp.number
 above_none v is =
-    counter_decides 0 v.stamp.number (omega (arith, counter_none, (stamp_counter v.stamp.number (parts_of_version v is).stamped).0))
+    grind (arith, counter_decides 0 v.stamp.number, counter_none, (stamp_counter v.stamp.number (parts_of_version v is).stamped).0)
 
 -- a member of a list of one
 only : (w v : Version) → In w (v ∷ []) → w ≡ v
@@ -69,20 +69,16 @@ latest_push : (key : ℕ) (vs : List Version) (t : Table) (v : Version) → 0 < 
     → LatestOf key (vs ++ v ∷ []) (came_to t v key)
 latest_push key vs t v some latest =
     ⊎_elim
-    (λ at. ⊎_elim
-    (λ up. subst (λ (o : Option Version). LatestOf key (vs ++ v ∷ []) o) (sym (came_here t v key at ∙ taken_higher (t key) v up)) (latest_higher key vs (t key) v (sym at) up latest))
-    (λ down. subst (λ (o : Option Version). LatestOf key (vs ++ v ∷ []) o) (sym (came_here t v key at ∙ taken_lower (t key) v down)) (latest_lower key vs (t key) v some down latest))
-    (cases_lt (held_stamp (t key)) v.stamp.number))
-    (λ ne. subst (λ (o : Option Version). LatestOf key (vs ++ v ∷ []) o) (sym (came_there t v key ne)) (latest_other key vs (t key) v (λ e. ne (sym e)) latest))
-    (cases_eq key v.key)
+    (λ at. ⊎_elim (λ up. rw (came_here t v key at, taken_higher (t key) v up) (latest_higher key vs (t key) v (sym at) up latest))
+    (λ down. rw (came_here t v key at, taken_lower (t key) v down) (latest_lower key vs (t key) v some down latest)) (cases_lt (held_stamp (t key)) v.stamp.number))
+    (λ ne. rw (came_there t v key ne) (latest_other key vs (t key) v (λ e. ne (sym e)) latest)) (cases_eq key v.key)
 
 -- and any number more
 latest_more : (key : ℕ) (vs ws : List Version) (t : Table) → ((v : Version) → In v ws → 0 < v.stamp.number) → LatestOf key vs (t key)
     → LatestOf key (vs ++ ws) (came_all t ws key)
-latest_more key vs [] t some latest = subst (λ (xs : List Version). LatestOf key xs (t key)) (sym (append-nil vs)) latest
+latest_more key vs [] t some latest = rw (append-nil vs) latest
 latest_more key vs (w ∷ ws) t some latest =
-    subst (λ (xs : List Version). LatestOf key xs (came_all (came_to t w) ws key)) (append_assoc vs (w ∷ []) ws)
-    (latest_more key (vs ++ w ∷ []) ws (came_to t w) (λ v i. some v (inr i)) (latest_push key vs t w (some w (inl refl)) latest))
+    rw (append_assoc vs (w ∷ []) ws) at (latest_more key (vs ++ w ∷ []) ws (came_to t w) (λ v i. some v (inr i)) (latest_push key vs t w (some w (inl refl)) latest))
 
 -- registers that were empty hold the latest of what came
 latest : (key : ℕ) (vs : List Version) → are_versions vs ≡ true → LatestOf key vs (came_all (λ k. None) vs key)
@@ -119,8 +115,8 @@ shown_is : (strides : ℕ → ℕ) (accepted : List Version) (read : ℕ → ℕ
     → came_all s.base (take n s.tail) key ≡ came_all (λ k. None) (take (told.gone + n) accepted) key
 shown_is strides accepted read s told n key =
     ap (λ (xs : List Version). came_all s.base (take n xs) key) told.tail_has
-    ∙ came_all_same s.base (came_all (λ k. None) (take told.gone accepted)) (take n (drop told.gone accepted)) key (told.base_has key)
-    ∙ ap (λ (f : Table). f key) (sym (came_append (λ k. None) (take told.gone accepted) (take n (drop told.gone accepted))))
+    ∙ ap (λ (t : Table). came_all t (take n (drop told.gone accepted)) key) (λ i k. told.base_has k i)
+    ∙ ap (λ (t : Table). t key) (sym (came_append (λ k. None) (take told.gone accepted) (take n (drop told.gone accepted))))
     ∙ ap (λ (xs : List Version). came_all (λ k. None) xs key) (sym (take-add told.gone n accepted))
 
 tells_tick : (strides : ℕ → ℕ) (accepted : List Version) (read : ℕ → ℕ) (s : LogState) → Tells strides accepted read s
@@ -150,26 +146,18 @@ tells_tick strides accepted read s told =
 -- a put, by its answer
 tells_answer : (strides : ℕ → ℕ) (accepted : List Version) (read : ℕ → ℕ) (s : LogState) (site : ℕ) (v : Version) (answer : PutAnswer) (t : LogState)
     → Tells strides accepted read s → PutLeaves (tail_bar s.tail) s (after_put s v) site v answer t → Tells strides (accepted ++ accepted_by answer v) read t
-tells_answer strides accepted read s site v answer t told (refused_unfit out a l) =
-    subst (λ (x : PutAnswer). Tells strides (accepted ++ accepted_by x v) read t) (sym a)
-    (subst (λ (xs : List Version). Tells strides xs read t) (sym (append-nil accepted)) (subst (λ (x : LogState). Tells strides accepted read x) (sym l) told))
-tells_answer strides accepted read s site v answer t told (refused_barred within b e a l) =
-    subst (λ (x : PutAnswer). Tells strides (accepted ++ accepted_by x v) read t) (sym a)
-    (subst (λ (xs : List Version). Tells strides xs read t) (sym (append-nil accepted)) (subst (λ (x : LogState). Tells strides accepted read x) (sym l) told))
-tells_answer strides accepted read s site v answer t told (put_accepted within e a l) =
-    subst (λ (x : PutAnswer). Tells strides (accepted ++ accepted_by x v) read t) (sym a)
-    (subst (λ (x : LogState). Tells strides (accepted ++ v ∷ []) read x) (sym l) (tells_put strides accepted read s v within.1 told))
+tells_answer strides accepted read s site v answer t told (refused_unfit out a l) = rw (a, append-nil accepted, l) told
+tells_answer strides accepted read s site v answer t told (refused_barred within b e a l) = rw (a, append-nil accepted, l) told
+tells_answer strides accepted read s site v answer t told (put_accepted within e a l) = rw (a, l) (tells_put strides accepted read s v within.1 told)
 
 tells : (strides : ℕ → ℕ) (ds : List Deed) (s : LogState) → Ran log_kind (log_start strides) ds s
     → Tells strides (accepted_of ds) (λ site. read_by (strides site) ds) s
 tells strides [] s e =
-    subst (λ (x : LogState). Tells strides [] (λ site. 0) x) (sym e)
-    (record { gone = 0; gone_within = omega arith; base_has = λ key. refl; tail_has = refl; reads = λ site h. refl; same_strides = λ site. refl; all_versions = refl; lowest_is_0 = sym (lowest_at_reached (λ site. 0)).2 })
+    rw e (record { gone = 0; gone_within = omega arith; base_has = λ key. refl; tail_has = refl; reads = λ site h. refl; same_strides = λ site. refl; all_versions = refl; lowest_is_0 = sym (lowest_at_reached (λ site. 0)).2 })
 tells strides (did_put site v answer ∷ ds) s ran =
     tells_answer strides (accepted_of ds) (λ other. read_by (strides other) ds) ran.0 site v answer s (tells strides ds ran.0 ran.1) ran.2
 tells strides (did_tick ∷ ds) s ran =
-    subst (λ (x : LogState). Tells strides (accepted_of ds) (λ site. min (read_by (strides site) ds + strides site) (length (accepted_of ds))) x) (sym ran.2)
-    (tells_tick strides (accepted_of ds) (λ site. read_by (strides site) ds) ran.0 (tells strides ds ran.0 ran.1))
+    rw ran.2 (tells_tick strides (accepted_of ds) (λ site. read_by (strides site) ds) ran.0 (tells strides ds ran.0 ran.1))
 
 pub log_law : LogLaw
 log_law strides ds s ran =
@@ -198,5 +186,5 @@ log_law strides ds s ran =
           subst (λ (o : Option Version). LatestOf key (take read accepted) o)
           (sym (shown_is strides accepted (λ other. read_by (strides other) ds) s told (s.position site) key
           ∙ ap (λ (n : ℕ). came_all (λ j. None) (take n accepted) key) (told.reads site h)))
-          (latest key (take read accepted) (versions_take read accepted told.all_versions));
+          (latest key (take read accepted) (versions_parts read accepted told.all_versions).0);
     }

@@ -7,4 +7,3 @@ pub mod Logging
 pub mod Coming
 pub mod Positioning
 pub mod Tailing
-pub mod Standing

@@ -1,5 +1,6 @@
 -- The log: a base register for each key, a tail of versions, and for each site how far it has read the tail.
-use Rattle.std.specs.Prelude.{◌≡◌, ℕ, zero, suc, ◌+◌, ◌-◌, ◌<◌, ◌≤◌, min, Bool, true, cond, ◌&&◌, List, [], ◌∷◌, ◌++◌, length, take, drop, Some, None, Option, nat_le}
+use Rattle.std.specs.Prelude.{◌≡◌, ℕ, zero, suc, ◌+◌, ◌-◌, ◌<◌, ◌≤◌, min, Bool, true, cond, List, [], ◌∷◌, ◌++◌, length, take, drop, Some, None, Option, nat_le}
+use Rattle.std.specs.List.{list_all}
 use Rattle.stamps.specs.Keys.{highest_below}
 use Rattle.stamps.specs.Numbers.{sites}
 use Rattle.stamps.specs.declared.refusal.Bar.{Bar}
@@ -87,8 +88,7 @@ log_means s =
 
 -- every record of a list is a version
 abbrev pub are_versions : List Version → Bool
-are_versions [] = true
-are_versions (v ∷ vs) = is_version v && are_versions vs
+are_versions = list_all is_version
 
 -- what holds of a log at any time
 pub record LogGood (s : LogState) : Type 0 where

@@ -1,11 +1,9 @@
 -- The log keeps the laws of every store.
-use Rattle.std.specs.Prelude.{◌≡◌, ℕ, ◌+◌, ◌-◌, ◌*◌, ◌<◌, ◌≤◌, max, true, cond, ◌⊎◌, List, [], ◌∷◌, ◌++◌, length, take, drop, Some, None, Option, ◌==◌, nat_le, refl}
-use Rattle.std.proofs.Common.{inl, inr, ⊎_elim, sym, ap, subst, ◌∙◌, add-mul, arith}
+use Rattle.std.specs.Prelude.{◌≡◌, ℕ, ◌-◌, ◌<◌, ◌≤◌, max, true, ◌⊎◌, List, [], ◌∷◌, ◌++◌, length, take, drop, None, refl}
+use Rattle.std.proofs.Common.{inl, inr, ⊎_elim, sym, ap, ◌∙◌, arith}
 use Rattle.std.proofs.lemmas.List.{append-nil, length-drop, length_push, take_all, take-append-drop}
-use Rattle.std.proofs.lemmas.Bool.{cases_lt, cond-true, cond-false, eq-eqb, ne_eqb, le-leb, lt-leb}
+use Rattle.std.proofs.lemmas.Bool.Decides.{nat_tests}
 use Rattle.stamps.specs.Numbers.{keys, sites}
-use Rattle.stamps.specs.declared.refusal.Bar.{Bar}
-use Rattle.stamps.specs.declared.refusal.Refusal.TheVariants.{TailFull}
 use Rattle.stamps.proofs.Counting.{highest_bound, highest_least}
 use Rattle.versions.specs.Joins.{In}
 use Rattle.versions.specs.Versions.{is_version}
@@ -23,21 +21,14 @@ use Rattle.shared_log.specs.Log.{LogState, LogGood, log_start, after_put, after_
 use Rattle.shared_log.specs.Numbers.{stride_limit, tail_limit}
 use Rattle.shared_log.specs.Coming.{came_stamp, came_one, came_all_placed, held_highest}
 use Rattle.shared_log.specs.Positioning.{lowest_at_most, lowest_at_reached, lowest_at_less}
-use Rattle.shared_log.specs.Tailing.{versions_in, versions_push, versions_take, versions_drop, in_take, in_drop}
+use Rattle.shared_log.specs.Tailing.{versions_in, versions_push, versions_parts, in_take, in_drop}
 
--- there is a bar exactly when the tail is full
-pub barred : (vs : List Version) → tail_limit ≤ length vs → tail_bar vs ≡ Some (record { refusal = TailFull; depth = 0 })
-barred vs full = cond-true (nat_le tail_limit (length vs)) (Some (record { refusal = TailFull; depth = 0 })) None (le-leb tail_limit (length vs) full)
-
+-- there is no bar exactly when the tail is not full
 pub unbarred : (vs : List Version) → length vs < tail_limit → tail_bar vs ≡ None
-unbarred vs few = cond-false (nat_le tail_limit (length vs)) (Some (record { refusal = TailFull; depth = 0 })) None (lt-leb tail_limit (length vs) few)
-
-bar_or_none : (b : Bar) → ◌≡◌ {A = Option Bar} (Some b) None → ⊥
-bar_or_none b e = let z : ◌≡◌ {A = ℕ} 0 1 = cc in omega arith
+unbarred vs few = grind (arith, nat_tests)
 
 pub room : (vs : List Version) → tail_bar vs ≡ None → length vs < tail_limit
-room vs none =
-    ⊎_elim (λ l. l) (λ full. absurd (bar_or_none (record { refusal = TailFull; depth = 0 }) (sym (barred vs full) ∙ none))) (cases_lt (length vs) tail_limit)
+room vs none = grind (arith, nat_tests)
 
 -- once all have moved on, the lowest position is not past the end
 pub low_within : (s : LogState) → lowest_at (moved_on s) ≤ length s.tail
@@ -75,8 +66,8 @@ tick_good s g =
     let low = lowest_at (moved_on s) in
     let left = length-drop low s.tail in
     record {
-      placed = came_all_placed s.base (take low s.tail) g.placed (versions_take low s.tail g.tail_fits);
-      tail_fits = versions_drop low s.tail g.tail_fits;
+      placed = came_all_placed s.base (take low s.tail) g.placed (versions_parts low s.tail g.tail_fits).0;
+      tail_fits = (versions_parts low s.tail g.tail_fits).1;
       few = omega (arith, left, g.few);
       within_tail = λ site. omega (arith, left);
       lowest_is_0 = lowest_at_less low (moved_on s) ∙ omega arith;
@@ -89,10 +80,8 @@ pub settled_empty : (s : LogState) → LogGood s → (log_means s).wait ≡ 0 �
 settled_empty s g none =
     let r = lowest_at_reached s.position in
     let site = r.0 in
-    let none_there : wait_at s site ≤ 0 = omega (arith, none, highest_bound sites (wait_at s) site r.1) in
-    let zero_there : wait_at s site ≡ 0 = omega (arith, none_there) in
-    let reaches = up_reaches (length s.tail - s.position site) (s.stride site) (omega (arith, g.stride_least site r.1)) in
-    omega (arith, reaches, ap (λ (n : ℕ). n * s.stride site) zero_there, r.2, g.lowest_is_0)
+    let reaches = up_reaches (length s.tail - s.position site) (s.stride site) (g.stride_least site r.1) in
+    grind (arith, g.lowest_is_0, r.2, highest_bound sites (wait_at s) site r.1, reaches)
 
 pub empty_settled : (s : LogState) → LogGood s → length s.tail ≡ 0 → (log_means s).wait ≡ 0
 empty_settled s g empty =
@@ -102,7 +91,7 @@ empty_settled s g empty =
 
 -- the peak of a key, from the base register and the tail
 peak_is : (s : LogState) (key : ℕ) → LogGood s → key < keys → highest_of_key key (log_kept s) ≡ max (held_stamp (s.base key)) (highest_of_key key s.tail)
-peak_is s key g h = highest_append key (all_held s.base) s.tail ∙ ap (λ (n : ℕ). max n (highest_of_key key s.tail)) (held_highest s.base key h g.placed)
+peak_is s key g h = grind (arith, highest_append, held_highest s.base key h g.placed)
 
 -- what a log means is lawful
 lawful : (s : LogState) → LogGood s → Lawful (log_means s)
@@ -116,7 +105,7 @@ lawful s g =
           (λ held. in_left v (all_held s.base) s.tail (in_held keys s.base key v h.1 held)) (came_one s.base (take (s.position site) s.tail) key v e);
       shown_is_keyed =
           λ site key v h e. placed_key key (came_all s.base (take (s.position site) s.tail) key) v
-          (came_all_placed s.base (take (s.position site) s.tail) g.placed (versions_take (s.position site) s.tail g.tail_fits) key) e;
+          (came_all_placed s.base (take (s.position site) s.tail) g.placed (versions_parts (s.position site) s.tail g.tail_fits).0 key) e;
       settled_shows_peaks = λ none site key h. let empty = settled_empty s g none in
           came_stamp s.base (take (s.position site) s.tail) key
           ∙ ap (λ (vs : List Version). max (held_stamp (s.base key)) (highest_of_key key vs)) (take_all (s.position site) s.tail (omega (arith, empty)))
@@ -132,34 +121,25 @@ took s v =
           λ w i. ⊎_elim (λ l. inr (in_left w (all_held s.base) s.tail l))
           (λ r. ⊎_elim (λ t. inr (in_right w (all_held s.base) s.tail t)) (only w) (in_either w s.tail (v ∷ []) r))
           (in_either w (all_held s.base) (s.tail ++ v ∷ []) i);
-      own_peak = omega (arith, more v.key, cond-true (v.key == v.key) v.stamp.number 0 (eq-eqb v.key v.key refl));
-      other_peaks = λ key h ne. omega (arith, more key, cond-false (v.key == key) v.stamp.number 0 (ne_eqb v.key key (λ e. ne (sym e))));
+      own_peak = grind (arith, nat_tests, highest_append);
+      other_peaks = λ key h ne. grind (arith, nat_tests, highest_append);
     }
   where
     only : (w : Version) → In w (v ∷ []) → (w ≡ v) ⊎ In w (log_kept s)
     only w (inl e) = inl e
     only w (inr i) = absurd i
 
-    more : (key : ℕ) → highest_of_key key (log_kept (after_put s v)) ≡ max (highest_of_key key (log_kept s)) (cond (v.key == key) v.stamp.number 0)
-    more key =
-        omega (arith, highest_append key (all_held s.base) (s.tail ++ v ∷ []), highest_append key s.tail (v ∷ []), highest_append key (all_held s.base) s.tail)
-
 -- a site's wait falls by one, or remains 0
 one_less : (unread stride : ℕ) → 1 ≤ stride → divided_up (unread - stride) stride ≤ divided_up unread stride - 1
 one_less unread stride h =
-    let q = divided_up unread stride in
-    let reaches : unread ≤ q * stride = up_reaches unread stride (omega (arith, h)) in
-    up_least (unread - stride) stride (q - 1) (omega (arith, h))
-    (⊎_elim (λ none. let e : q ≡ 0 = omega (arith, none) in omega (arith, reaches, ap (λ (n : ℕ). n * stride) e))
-    (λ some. let e : q ≡ (q - 1) + 1 = omega (arith, some) in omega (arith, reaches, ap (λ (n : ℕ). n * stride) e, add-mul (q - 1) 1 stride)) (cases_lt q 1))
+    up_least (unread - stride) stride (divided_up unread stride - 1) h (grind (arith, up_reaches unread stride h))
 
 wait_less : (s : LogState) → LogGood s → (site : ℕ) → site < sites → wait_at (after_tick s) site ≤ wait_at s site - 1
 wait_less s g site h =
     let low = lowest_at (moved_on s) in
-    let below = lowest_at_most (moved_on s) site h in
     let unread : length (drop low s.tail) - (moved_on s site - low) ≡ (length s.tail - s.position site) - s.stride site =
-    omega (arith, length-drop low s.tail, below, g.within_tail site) in
-    subst (λ (n : ℕ). divided_up n (s.stride site) ≤ wait_at s site - 1) (sym unread) (one_less (length s.tail - s.position site) (s.stride site) (g.stride_least site h))
+    omega (arith, length-drop low s.tail, lowest_at_most (moved_on s) site h, g.within_tail site) in
+    rw unread (one_less (length s.tail - s.position site) (s.stride site) (g.stride_least site h))
 
 -- what a tick does to the meaning
 passed : (s : LogState) → LogGood s → Passed (log_means s) (log_means (after_tick s))
@@ -168,12 +148,12 @@ passed s g =
       kept_before =
           λ w i. ⊎_elim (before w) (λ r. in_right w (all_held s.base) s.tail (in_drop w low s.tail r)) (in_either w (all_held new) (drop low s.tail) i);
       peaks_hold =
-          λ key h. omega (
+          λ key h. grind (
             arith,
             peak_is s key g h,
             peak_is (after_tick s) key (tick_good s g) h,
-            came_stamp s.base (take low s.tail) key,
-            highest_append key (take low s.tail) (drop low s.tail),
+            came_stamp,
+            highest_append,
             ap (highest_of_key key) (take-append-drop low s.tail),
           );
       wait_falls =
@@ -200,8 +180,8 @@ log_sound =
       put_keeps =
           λ s site v answer t g put. put_keeps LogGood (tail_bar s.tail) s (after_put s v) site v answer t g put (λ within none. put_good s v g within.1 none);
       put_means = λ s site v answer t g put. put_means log_means s (after_put s v) site v answer t put (λ within none. took s v);
-      tick_keeps = λ s t g e. subst LogGood (sym e) (tick_good s g);
-      tick_means = λ s t g e. subst (λ (x : LogState). Passed (log_means s) (log_means x)) (sym e) (passed s g);
+      tick_keeps = λ s t g e. rw e (tick_good s g);
+      tick_means = λ s t g e. rw e (passed s g);
     }
 
 pub log_one : EachStepHasOneOutcome log_kind

@@ -8,6 +8,7 @@ use Rattle.versions.specs.declared.version.Version.{Version}
 use Rattle.causal.specs.Tables.{Table, held_stamp}
 use Rattle.store.specs.Kinds.{Sound, EachStepHasOneOutcome, RefusedKeeps}
 use Rattle.store.specs.Meanings.{Lawful, Took, Passed, New}
+use Rattle.store.specs.Registering.{registers_placed}
 use Rattle.store.specs.Registers.{is_placed, came_to, all_held}
 use Rattle.store.proofs.Keeping.{in_held, from_held, held_none}
 use Rattle.store.proofs.Making.{put_means, put_keeps, one_put, refused_left}
@@ -63,7 +64,7 @@ smallest_sound =
 
 -- the code's registers hold at each key a version of it, or none
 pub smallest_good : (s : Smallest) (k : ℕ) → is_placed k (smallest_state s k) ≡ true
-smallest_good s k = s.registers.placed k
+smallest_good s k = registers_placed s.registers k
 
 pub smallest_one : EachStepHasOneOutcome smallest_kind
 smallest_one =

@@ -1,11 +1,11 @@
 ghost use Rattle.std.specs.Prelude.{◌≡◌, ℕ, None};
-ghost use Rattle.store.specs.Kinds.{EachStepHasOneOutcome, RefusedKeeps};
 ghost use Rattle.store.specs.Meanings.{New};
 ghost use Rattle.smallest.specs.Smallest.{registers_mean, smallest_kind, smallest_state};
-ghost use Rattle.smallest.specs.Smallness.{smallest_sound, smallest_good};
+ghost use Rattle.smallest.specs.Smallness.{smallest_sound, smallest_good, smallest_one, smallest_left};
 
 use crate::smallest::Smallest;
 use stamps::refusal::Refusal;
+use store::exact::Exact;
 use store::put_refusal::PutRefusal;
 use store::range::{check_ask, check_put};
 use store::registers::Registers;
@@ -33,8 +33,8 @@ impl Store for Smallest {
     ghost good = { smallest_good };
 
     fn ask(&mut self, site: u32, key: u32) -> Result<Option<Version>, Refusal> {
-        check_ask(site, key)?;
-        Ok(self.registers.read(key))
+        let spot = check_ask(site, key)?;
+        Ok(*self.registers.at(spot.key))
     }
 
     fn settled(&mut self) -> bool {
@@ -42,7 +42,7 @@ impl Store for Smallest {
     }
 
     fn put(&mut self, site: u32, version: Version) -> Result<(), PutRefusal> {
-        check_put(site, &version)?;
+        let (_, version) = check_put(site, &version)?;
         self.registers.take(&version);
         Ok(())
     }
@@ -50,12 +50,9 @@ impl Store for Smallest {
     fn tick(&mut self) {}
 }
 
-// Theorem: every step of the smallest store has one outcome. It has no code.
-pub fn smallest_has_one_outcome()
-    ensures { EachStepHasOneOutcome smallest_kind }
-{}
+// Every step of the smallest store has one outcome, and a refused put leaves the registers as they were.
+impl Exact for Smallest {
+    ghost one_outcome = { smallest_one };
 
-// Theorem: a refused put leaves the registers as they were. It has no code.
-pub fn smallest_keeps_when_refusing()
-    ensures { RefusedKeeps smallest_kind }
-{}
+    ghost keeps = { smallest_left };
+}

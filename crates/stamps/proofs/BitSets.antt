@@ -1,12 +1,19 @@
 -- A number as the set of its bits.
-use Rattle.std.proofs.Common.{◌≡◌, ℕ, zero, suc, ◌+◌, ◌*◌, ◌/◌, ◌%◌, ◌^◌, ◌<◌, ◌≤◌, Bool, true, false, cond, ◌&&◌, ◌||◌, eqb, sym, refl, ap, ◌∙◌, ap₂, lt_of_lt_of_le, pow-suc, one-add, arith, pow_mono}
+use Rattle.std.proofs.Common.{◌≡◌, ℕ, zero, suc, Result, Ok, Err, MatchResult, MatchOption, ◌+◌, ◌*◌, ◌/◌, ◌%◌, ◌^◌, ◌-◌, ◌<◌, ◌≤◌, Bool, true, false, not, cond, ⊎_elim, w32, ◌&&◌, ◌||◌, eqb, sym, refl, ap, ◌∙◌, ap₂, lt_of_lt_of_le, pow-suc, one-add, arith, pow_mono}
 use mathlib.Core.Bool.{xor}
 use native.Mathlib.Nat.{div-eq_of_lt}
 use lib.Bits.{bit_and, bit_or, bit_xor}
 use lib.Count.{ones, ones_cat, count_trailing_zeros, under}
 use lib.Dec.{eqb-zero-suc, eqb-suc-zero, eqb-suc-suc}
+use Rattle.std.specs.Int.{bit_at}
+use Rattle.std.specs.Int.Count.{trailing_of_zero}
+use Rattle.std.specs.Result.{result_ok}
+use Rattle.std.proofs.lemmas.Bool.{cases_lt}
+use Rattle.std.proofs.lemmas.Nat.Bits.{bit_at_not, bit_at-lt}
 use Rattle.std.proofs.lemmas.Nat.{and_shr, and_mod, or_shr, or_mod, xor_shr, xor_mod, pow_pos, shr-shr, mod-pow-add, mod_below, one_shl}
 use Rattle.stamps.specs.Keys.{count_below}
+use Rattle.stamps.specs.declared.refusal.Refusal.TheVariants.{OutOfRange}
+use Rattle.stamps.specs.declared.refusal.Refusal.{Refusal}
 
 abbrev pub bit : ℕ → ℕ → Bool
 bit x k = eqb (x / 2 ^ k % 2) 1
@@ -100,3 +107,46 @@ unfolding count_trailing_zeros
 trailing_lowest zero x p l = absurd (omega arith)
 trailing_lowest (suc n) x p l =
     lowest_under n x (count_trailing_zeros n (x / 2)) (x % 2) p refl (λ q. trailing_lowest n (x / 2) q (omega (arith, pow-suc 2 n)))
+
+-- `!m` at 32 bits has the bits below 32 that m has not
+bit_not_below : (m k : ℕ) → m < 2 ^ 32 → k < 32 → bit (2 ^ 32 - 1 - m) k ≡ not (bit m k)
+bit_not_below m k l h = ap (λ (d : ℕ). eqb d 1) (bit_at_not w32 m k l h) ∙ turned (bit_at m k) (bit_at-lt m k)
+  where
+    turned : (d : ℕ) → d < 2 → eqb (1 - d) 1 ≡ not (eqb d 1)
+    turned zero l = refl
+    turned (suc zero) l = refl
+    turned (suc (suc d)) l = absurd (omega arith)
+
+-- striking the bit j out of a number of 32 bits
+pub bit_strike : (a j k : ℕ) → a < 2 ^ 32 → j < 32 → bit (bit_and a (2 ^ 32 - 1 - 1 * 2 ^ j % 2 ^ 32)) k ≡ (not (eqb k j) && bit a k)
+bit_strike a j k l m = bit_of_and a (2 ^ 32 - 1 - 1 * 2 ^ j % 2 ^ 32) k ∙ ⊎_elim within above (cases_lt k 32)
+  where
+    turn : (x y : Bool) → (x && y) ≡ (y && x)
+    turn true true = refl
+    turn true false = refl
+    turn false true = refl
+    turn false false = refl
+
+    within : k < 32 → (bit a k && bit (2 ^ 32 - 1 - 1 * 2 ^ j % 2 ^ 32) k) ≡ (not (eqb k j) && bit a k)
+    within h =
+        ap (λ (b : Bool). bit a k && b) (bit_not_below (1 * 2 ^ j % 2 ^ 32) k (omega arith) h ∙ ap not (bit_shl 32 j k m))
+        ∙ turn (bit a k) (not (eqb k j))
+
+    above : 32 ≤ k → (bit a k && bit (2 ^ 32 - 1 - 1 * 2 ^ j % 2 ^ 32) k) ≡ (not (eqb k j) && bit a k)
+    above h =
+        ap (λ (b : Bool). b && bit (2 ^ 32 - 1 - 1 * 2 ^ j % 2 ^ 32) k) (bit_above a 32 k l h) ∙ turn false (not (eqb k j))
+        ∙ ap (λ (b : Bool). not (eqb k j) && b) (sym (bit_above a 32 k l h))
+
+-- the number of trailing zeros, where it is below 32, is the lowest bit
+pub lowest_of :
+    (x : ℕ) (r : Result ℕ Refusal) → x < 2 ^ 32
+    → MatchResult r (λ t. (count_trailing_zeros 32 x < 32) × (t ≡ count_trailing_zeros 32 x)) (λ e. (e ≡ OutOfRange) × (32 ≤ count_trailing_zeros 32 x))
+    → MatchOption (result_ok r) ((k : ℕ) → bit x k ≡ false) (λ t. IsLowest 32 x t)
+lowest_of x (Ok t) l h = rw h.1 (⊎_elim (λ p. trailing_lowest 32 x p l) (λ p. absurd (zeros p)) (cases_lt 0 x))
+  where
+    zeros : x ≤ 0 → ⊥
+    zeros p = let none : x ≡ 0 = omega arith in let all = ap (count_trailing_zeros 32) none ∙ trailing_of_zero 32 in omega (arith, h.0, all)
+lowest_of x (Err e) l h = λ k. ⊎_elim (λ p. absurd (some p)) (λ p. bit_above x 0 k (omega arith) (omega arith)) (cases_lt 0 x)
+  where
+    some : 0 < x → ⊥
+    some p = omega (arith, h.1, (trailing_lowest 32 x p l).0)

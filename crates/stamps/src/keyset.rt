@@ -1,9 +1,11 @@
-ghost use Rattle.std.specs.Prelude.{◌≡◌, ℕ, ◌<◌, ◌≤◌, true, false, not, ◌&&◌, ◌||◌, MatchOption, MatchResult, ◌==◌};
+ghost use Rattle.std.specs.Prelude.{◌≡◌, ℕ, ◌<◌, ◌≤◌, true, false, not, ◌&&◌, ◌||◌, ◌↔◌, IsTrue, MatchOption, MatchResult, ◌==◌};
+ghost use Rattle.std.specs.Iterator.{at_most};
 ghost use Rattle.stamps.specs.Numbers.{keys};
 ghost use Rattle.stamps.specs.Keys.{count_keys};
-ghost use Rattle.stamps.specs.KeySets.{has};
+ghost use Rattle.stamps.specs.KeySets.{has, GivesLowest};
 ghost use Rattle.stamps.specs.declared.refusal.Refusal.TheVariants.{OutOfRange};
 
+use crate::below::Key;
 use crate::limits::KEYS;
 use crate::refusal::Refusal;
 
@@ -21,16 +23,28 @@ impl KeySet {
         KeySet { bits: 0 }
     }
 
+    // The set of the keys that pass a test.
+    pub fn of<F: Fn(Key) -> bool>(test: F) -> KeySet
+        requires { (k : ℕ) → k < keys → F.pre test k }
+        ensures tested { (k : ℕ) → k < keys → F.post test k (has result k) }
+        ensures within { (k : ℕ) → keys ≤ k → has result k ≡ false }
+    {
+        let mut passing = KeySet::empty();
+        for key in Key::all() {
+            if test(key) {
+                passing = passing.with(key);
+            }
+        }
+        passing
+    }
+
     // Puts a key into the set; a key out of range is refused 14, and the set stays.
     pub fn insert(&mut self, key: u32) -> Result<(), Refusal>
         ensures { MatchResult result
             (λ _. (key < keys) × ((k : ℕ) → has self.new k ≡ (k == key || has self.old k)))
             (λ e. (e ≡ OutOfRange) × (keys ≤ key) × (self.new ≡ self.old)) }
     {
-        if key >= KEYS {
-            return Err(Refusal::OutOfRange);
-        }
-        *self = self.with(key);
+        *self = self.with(Key::try_from(key)?);
         Ok(())
     }
 
@@ -39,11 +53,11 @@ impl KeySet {
         ensures found { result ≡ has self.old key }
         ensures struck { (k : ℕ) → has self.new k ≡ (not (k == key) && has self.old k) }
     {
-        if !self.contains(key) {
-            return false;
+        let found = self.contains(key);
+        if let Ok(key) = Key::try_from(key) {
+            *self = self.without(key);
         }
-        *self = self.without(key);
-        true
+        found
     }
 
     // Whether a key is in the set; no key out of range is.
@@ -70,35 +84,63 @@ impl KeySet {
         self.bits.count_ones()
     }
 
+    // Whether the set has no key.
+    pub fn is_empty(self) -> bool
+        ensures { IsTrue result ↔ ((k : ℕ) → has self k ≡ false) }
+    {
+        self.lowest().is_none()
+    }
+
     // The lowest key of the set, or none of the empty set.
-    pub fn lowest(self) -> Option<u32>
+    pub fn lowest(self) -> Option<Key>
         ensures { MatchOption result ((k : ℕ) → has self k ≡ false)
             (λ key. (key < keys) × (has self key ≡ true) × ((k : ℕ) → k < key → has self k ≡ false)) }
     {
-        if self.bits == 0 {
-            return None;
-        }
-        Some(self.bits.trailing_zeros())
+        Key::try_from(self.bits.trailing_zeros()).ok()
+    }
+
+    // The keys of the set, upward.
+    pub fn keys(self) -> Keys
+        ensures { result.left ≡ self }
+    {
+        Keys { left: self }
     }
 
     // The set with a key put in.
-    fn with(self, key: u32) -> KeySet
-        requires { key < keys }
+    pub fn with(self, key: Key) -> KeySet
         ensures { (k : ℕ) → has result k ≡ (k == key || has self k) }
     {
         KeySet {
-            bits: self.bits | (1 << key),
+            bits: self.bits | (1 << key.number()),
         }
     }
 
-    // The set with one of its keys struck out.
-    fn without(self, key: u32) -> KeySet
-        requires within { key < keys }
-        requires there { has self key ≡ true }
+    // The set with a key struck out.
+    pub fn without(self, key: Key) -> KeySet
         ensures { (k : ℕ) → has result k ≡ (not (k == key) && has self k) }
     {
         KeySet {
-            bits: self.bits ^ (1 << key),
+            bits: self.bits & !(1 << key.number()),
         }
+    }
+}
+
+// Gives the keys of a set, upward.
+#[derive(Clone, Copy)]
+pub struct Keys {
+    left: KeySet,
+}
+
+impl Iterator for Keys {
+    type Item = Key;
+
+    ghost next_gives = { λ s found t. GivesLowest s.left found t.left };
+
+    ghost remaining = { λ s. at_most (count_keys (has s.left)) };
+
+    fn next(&mut self) -> Option<Key> {
+        let key = self.left.lowest()?;
+        self.left = self.left.without(key);
+        Some(key)
     }
 }

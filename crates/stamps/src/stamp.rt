@@ -7,7 +7,7 @@ use crate::limits::{COUNTER_LIMIT, FACTOR, TERMINALS};
 use crate::refusal::Refusal;
 
 // A stamp as one number, counter × 8 + terminal: the higher stamp wins. 0 stands for none.
-#[derive(Clone, Copy, PartialEq, Eq)]
+#[derive(Clone, Copy, PartialEq, Eq, PartialOrd, Ord)]
 pub struct Stamp {
     pub number: u32,
 }
@@ -20,16 +20,18 @@ pub struct StampParts {
 }
 
 impl Stamp {
-    // No stamp.
+    // No stamp. Kept a number, not an Option: by the rules a stamp is one number, of which rows and answer lines
+    // have 0 for none.
     pub const NONE: Stamp = Stamp { number: 0 };
 
-    // The stamp of a counter and a terminal; refused 14 where either is out of range.
+    // The stamp of a counter and a terminal; refused 14 where either is out of range. Kept a function: a TryFrom of a
+    // pair would say less of which number is which.
     pub fn make(counter: u32, terminal: u32) -> Result<Stamp, Refusal>
         ensures { MatchResult result
             (λ s. InStampRange counter terminal × (s.number ≡ counter * factor + terminal))
             (λ e. (e ≡ OutOfRange) × (InStampRange counter terminal → ⊥)) }
     {
-        if counter < 1 || counter > COUNTER_LIMIT || terminal >= TERMINALS {
+        if !(1..=COUNTER_LIMIT).contains(&counter) || terminal >= TERMINALS {
             return Err(Refusal::OutOfRange);
         }
         Ok(Stamp {
@@ -44,7 +46,7 @@ impl Stamp {
             (λ p. InStampRange p.counter p.terminal × (self.number ≡ p.counter * factor + p.terminal)))
             (λ e. (e ≡ OutOfRange) × (is_stamp self.number ≡ false) × (self.number ≢ 0)) }
     {
-        if self.number == Stamp::NONE.number {
+        if self == Stamp::NONE {
             return Ok(None);
         }
         if !self.is_stamp() {
@@ -60,8 +62,7 @@ impl Stamp {
     pub fn is_stamp(self) -> bool
         ensures { result ≡ is_stamp self.number }
     {
-        let counter = self.counter();
-        1 <= counter && counter <= COUNTER_LIMIT
+        (1..=COUNTER_LIMIT).contains(&self.counter())
     }
 
     // The counter of a stamp; 0 for none.
@@ -75,6 +76,6 @@ impl Stamp {
     pub fn is_older(self, counter: u32) -> bool
         ensures { result ≡ is_older counter self.number }
     {
-        self.number == Stamp::NONE.number || self.is_stamp() && self.counter() < counter
+        self == Stamp::NONE || self.is_stamp() && self.counter() < counter
     }
 }

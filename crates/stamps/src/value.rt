@@ -1,7 +1,8 @@
-ghost use Rattle.std.specs.Prelude.{◌≡◌};
-ghost use Rattle.stamps.specs.Values.{in_range, letter_of};
+ghost use Rattle.std.specs.Prelude.{◌≡◌, Some};
+ghost use Rattle.stamps.specs.Values.{in_range, letter_of, text_of};
 
 use crate::limits::{AMOUNT_LIMIT, CARD_LIMIT};
+use std::fmt;
 
 // What a version says of its key.
 #[derive(Clone, Copy, PartialEq, Eq)]
@@ -23,13 +24,12 @@ impl Value {
     {
         match self {
             Value::Amount(cents) => cents <= AMOUNT_LIMIT,
-            Value::Free => true,
-            Value::Barred => true,
+            Value::Free | Value::Barred => true,
             Value::Replaced(card) => card <= CARD_LIMIT,
         }
     }
 
-    // The letter that stands for the value in a line.
+    // The letter that stands for the value in a line. Kept beside the enum: the rules give each value its letter.
     pub fn letter(self) -> u8
         ensures { result ≡ letter_of self }
     {
@@ -38,6 +38,20 @@ impl Value {
             Value::Free => b'F',
             Value::Barred => b'X',
             Value::Replaced(_) => b'N',
+        }
+    }
+}
+
+// The value in words, an amount in whole units and hundredths.
+impl fmt::Display for Value {
+    ghost output = { λ value. Some (text_of value) };
+
+    fn fmt<W: fmt::Write>(&self, f: &mut fmt::Formatter<W>) -> fmt::Result {
+        match self {
+            Value::Amount(cents) => write!(f, "balance {}.{:02}", cents / 100, cents % 100),
+            Value::Free => write!(f, "card free"),
+            Value::Barred => write!(f, "card barred"),
+            Value::Replaced(card) => write!(f, "replaced by card {card}"),
         }
     }
 }

@@ -2,3 +2,4 @@ pub mod Keeping
 pub mod Making
 pub mod Registering
 pub mod Rounding
+mod Queueing

@@ -2,6 +2,8 @@ pub mod Holding
 pub mod Kinds
 pub mod Meanings
 pub mod Puts
+pub mod Registering
+pub mod Queues
 pub mod Registers
 pub mod Runs
 pub mod Waits

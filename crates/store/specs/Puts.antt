@@ -1,5 +1,6 @@
 -- How a store answers.
-use Rattle.std.specs.Prelude.{◌≡◌, ℕ, Some, None, Ok, Err, Option, Result, MatchResult}
+use Rattle.std.specs.Prelude.{◌≡◌, ℕ, ◌+◌, min, Some, None, Ok, Err, Option, Result, MatchResult}
+use Rattle.stamps.specs.Numbers.{depth_limit}
 use Rattle.stamps.specs.declared.refusal.Bar.{Bar}
 use Rattle.stamps.specs.declared.refusal.Refusal.TheVariants.{OutOfRange}
 use Rattle.stamps.specs.declared.refusal.Refusal.{Refusal}
@@ -16,6 +17,15 @@ PutAnswer = Result (Unit {0}) PutRefusal
 abbrev pub refusal_of : PutRefusal → Refusal
 refusal_of Unfit = OutOfRange
 refusal_of (Barring b) = b.refusal
+
+-- a bar as the layer above gives it: the depth is one more, never above 255
+abbrev pub bar_passed_up : Bar → Bar
+bar_passed_up b = record { refusal = b.refusal; depth = min depth_limit (b.depth + 1) }
+
+-- a refusal as the layer above gives it: a bar is passed up, what does not fit stays so
+abbrev pub refusal_passed_up : PutRefusal → PutRefusal
+refusal_passed_up Unfit = Unfit
+refusal_passed_up (Barring b) = Barring (bar_passed_up b)
 
 -- asking answers the version shown; a site or key out of range is refused 14
 abbrev pub Asked : Meaning → ℕ → ℕ → Result (Option Version) Refusal → Type 0

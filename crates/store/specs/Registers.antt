@@ -1,10 +1,10 @@
 -- Registers: a place for one version, by the register rule.
-use Rattle.std.specs.Prelude.{ℕ, zero, suc, max, Bool, true, cond, ◌&&◌, List, [], ◌∷◌, ◌++◌, Some, None, Option, ◌==◌, nat_lt, slice_index_or}
+use Rattle.std.specs.Prelude.{ℕ, zero, suc, max, Bool, true, cond, ◌&&◌, List, [], ◌∷◌, ◌++◌, Some, None, Option, ◌==◌, nat_lt}
 use Rattle.std.specs.Option.{option_to_list}
 use Rattle.stamps.specs.Numbers.{keys, sites}
 use Rattle.versions.specs.Versions.{is_version}
 use Rattle.versions.specs.declared.version.Version.{Version}
-use Rattle.causal.specs.Tables.{Table, table_of, held_stamp}
+use Rattle.causal.specs.Tables.{Table, held_stamp}
 
 -- what stands at a key is a version of that key, or none
 abbrev pub is_placed : ℕ → Option Version → Bool
@@ -24,13 +24,13 @@ abbrev pub came_all : Table → List Version → Table
 came_all t [] = t
 came_all t (v ∷ vs) = came_all (came_to t v) vs
 
+-- registers by key, after one has been written
+abbrev pub written_to : Table → ℕ → Option Version → Table
+written_to t key o k = cond (k == key) o (t k)
+
 -- registers for each site and key
 abbrev pub Sites : Type 0
 Sites = ℕ → Table
-
--- what arrays of places, one array for each site, hold at a site and key
-abbrev pub sites_of : List (List (Option Version)) → Sites
-sites_of places site = table_of (slice_index_or places site [])
 
 -- registers for each site and key, after a version has come to a site
 abbrev pub came_at : Sites → ℕ → Version → Sites

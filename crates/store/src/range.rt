@@ -1,34 +1,39 @@
-ghost use Rattle.std.specs.Prelude.{◌≡◌, MatchResult};
+ghost use Rattle.std.specs.Prelude.{◌≡◌, IfOk, MatchResult};
 ghost use Rattle.stamps.specs.declared.refusal.Refusal.TheVariants.{OutOfRange};
 ghost use Rattle.store.specs.Meanings.{InAskRange, InPutRange};
 ghost use Rattle.store.specs.declared.put_refusal.PutRefusal.TheVariants.{Unfit};
 
 use crate::put_refusal::PutRefusal;
-use stamps::limits::{KEYS, SITES};
+use crate::spot::Spot;
+use stamps::below::{Key, Site};
+use stamps::limits::SITES;
 use stamps::refusal::Refusal;
+use versions::valid::ValidVersion;
 use versions::version::Version;
 
 // Registers by site have one place for each site.
 pub const SITE_PLACES: usize = SITES as usize;
 
-// Whether a site and a key are in range; refused 14 where either is not.
-pub fn check_ask(site: u32, key: u32) -> Result<(), Refusal>
-    ensures { MatchResult result (λ _. InAskRange site key) (λ e. (e ≡ OutOfRange) × (InAskRange site key → ⊥)) }
+// The spot of a site and a key; refused 14 where either is out of range. Kept a function beside `check_put`: each
+// answers in its own words, and the stores call them by name.
+pub fn check_ask(site: u32, key: u32) -> Result<Spot, Refusal>
+    ensures range { MatchResult result (λ _. InAskRange site key) (λ e. (e ≡ OutOfRange) × (InAskRange site key → ⊥)) }
+    ensures spot { IfOk result (λ spot. (spot.site ≡ site) × (spot.key ≡ key)) }
 {
-    if site >= SITES || key >= KEYS {
-        return Err(Refusal::OutOfRange);
-    }
-    Ok(())
+    Ok(Spot {
+        site: Site::try_from(site)?,
+        key: Key::try_from(key)?,
+    })
 }
 
-// Whether a site is in range and a record is a version; refused 14 where either is not.
-pub fn check_put(site: u32, version: &Version) -> Result<(), PutRefusal>
-    ensures { MatchResult result
+// The site and the version of a put; refused 14 where the site is out of range or the record is no version.
+pub fn check_put(site: u32, version: &Version) -> Result<(Site, ValidVersion), PutRefusal>
+    ensures range { MatchResult result
         (λ _. InPutRange site version.now)
         (λ e. (e ≡ Unfit) × (InPutRange site version.now → ⊥)) }
+    ensures put { IfOk result (λ put. (put.0 ≡ site) × (put.1 ≡ version.now)) }
 {
-    if site >= SITES || !version.is_version() {
-        return Err(PutRefusal::Unfit);
-    }
-    Ok(())
+    let site = Site::try_from(site).map_err(|_| PutRefusal::Unfit)?;
+    let version = ValidVersion::try_from(*version).map_err(|_| PutRefusal::Unfit)?;
+    Ok((site, version))
 }

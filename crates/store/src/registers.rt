@@ -1,15 +1,56 @@
-ghost use Rattle.std.specs.Prelude.{◌≡◌, ℕ, true, length};
-ghost use Rattle.stamps.specs.Numbers.{keys};
-ghost use Rattle.causal.specs.Tables.{table_of};
-ghost use Rattle.store.specs.Registers.{is_placed};
-
-use stamps::limits::PLACES;
+use causal::table::VersionTable;
+use stamps::below::Key;
+use versions::valid::ValidVersion;
 use versions::version::Version;
 
 // A register for each key: a version of that key, or none.
 #[derive(Clone, Copy)]
 pub struct Registers {
-    pub(crate) held: [Option<Version>; PLACES],
-    ghost sized: { length held ≡ keys },
-    ghost placed: { (k : ℕ) → is_placed k (table_of held k) ≡ true },
+    held: VersionTable,
+}
+
+impl Registers {
+    ghost use Rattle.std.specs.Prelude.{◌≡◌, ℕ, true, None};
+    ghost use Rattle.store.specs.Holding.{registered};
+    ghost use Rattle.store.specs.Registers.{is_placed, came_to, written_to};
+
+    // Empty registers.
+    pub fn new() -> Registers
+        ensures { (k : ℕ) → registered result k ≡ None }
+    {
+        Registers {
+            held: VersionTable::new(),
+        }
+    }
+
+    // What the register of a key holds; nothing stands at a key out of range. Kept beside `at`: it takes any number.
+    pub fn read(&self, key: u32) -> Option<Version>
+        ensures { result ≡ registered self.now key }
+    {
+        *self.at(Key::try_from(key).ok()?)
+    }
+
+    // What the register of a key holds.
+    pub fn at(&self, key: Key) -> &Option<Version>
+        ensures { result.now ≡ registered self.now key }
+    {
+        self.held.at(key)
+    }
+
+    // Brings a version to the register of its key, which takes it only if its stamp is higher.
+    pub fn take(&mut self, version: &ValidVersion)
+        ensures { (k : ℕ) → registered self.new k ≡ came_to (registered self.old) version.now k }
+    {
+        if self.held.stamp_at(version.key()) < version.version().stamp {
+            self.held.put(version);
+        }
+    }
+
+    // Writes what the register of a key holds, whatever it held.
+    pub fn write(&mut self, key: Key, found: &Option<Version>)
+        requires placed { is_placed key found.now ≡ true }
+        ensures { (k : ℕ) → registered self.new k ≡ written_to (registered self.old) key found.now k }
+    {
+        self.held.write(key, found);
+    }
 }

@@ -1,16 +1,73 @@
-ghost use Rattle.std.specs.Prelude.{◌≡◌, ℕ, ◌<◌, true, [], length, slice_index_or};
-ghost use Rattle.stamps.specs.Numbers.{keys, sites};
-ghost use Rattle.store.specs.Registers.{is_placed, sites_of};
+ghost use Rattle.std.specs.Prelude.{◌≡◌, length};
+ghost use Rattle.stamps.specs.Numbers.{sites as site_count};
 
-use crate::range::SITE_PLACES;
-use stamps::limits::PLACES;
+use crate::range::{SITE_PLACES, check_ask};
+use crate::registers::Registers;
+use crate::spot::Spot;
+use causal::choose::stamp_of;
+use stamps::below::Site;
+use stamps::stamp::Stamp;
+use versions::valid::ValidVersion;
 use versions::version::Version;
 
-// A register for each site and key: a version of that key, or none.
+// Registers for each site: at each key a version of that key, or none.
 #[derive(Clone, Copy)]
 pub struct SiteRegisters {
-    pub(crate) held: [[Option<Version>; PLACES]; SITE_PLACES],
-    ghost rows: { length held ≡ sites },
-    ghost sized: { (s : ℕ) → s < sites → length (slice_index_or held s []) ≡ keys },
-    ghost placed: { (s k : ℕ) → is_placed k (sites_of held s k) ≡ true },
+    sites: [Registers; SITE_PLACES],
+    ghost sized: { length sites ≡ site_count },
+}
+
+impl SiteRegisters {
+    ghost use Rattle.std.specs.Prelude.{◌≡◌, ℕ, true, None};
+    ghost use Rattle.causal.specs.Tables.{held_stamp};
+    ghost use Rattle.store.specs.Holding.{registered_at};
+    ghost use Rattle.store.specs.Registers.{is_placed, came_at, written_at};
+
+    // Empty registers.
+    pub fn new() -> SiteRegisters
+        ensures { (s k : ℕ) → registered_at result s k ≡ None }
+    {
+        SiteRegisters {
+            sites: [Registers::new(); SITE_PLACES],
+        }
+    }
+
+    // What the register of a site and key holds; nothing stands out of range. Kept beside `at`: it takes any numbers.
+    pub fn read(&self, site: u32, key: u32) -> Option<Version>
+        ensures { result ≡ registered_at self.now site key }
+    {
+        let spot = check_ask(site, key).ok()?;
+        *self.at(spot)
+    }
+
+    // The stamp in the register of a site and key; 0 for none.
+    pub fn stamp_at(&self, site: u32, key: u32) -> Stamp
+        ensures { result.number ≡ held_stamp (registered_at self.now site key) }
+    {
+        stamp_of(&self.read(site, key))
+    }
+
+    // What the register of a spot holds.
+    pub fn at(&self, spot: Spot) -> &Option<Version>
+        ensures { result.now ≡ registered_at self.now spot.site spot.key }
+    {
+        self.sites[spot.site.place()].at(spot.key)
+    }
+
+    // Brings a version to the register of its key at a site, which takes it only if its stamp is higher.
+    pub fn take(&mut self, site: Site, version: &ValidVersion)
+        ensures { (s k : ℕ) → registered_at self.new s k ≡ came_at (registered_at self.old) site version.now s k }
+    {
+        let sites = &mut self.sites;
+        sites[site.place()].take(version);
+    }
+
+    // Writes what the register of a site and key holds, whatever it held.
+    pub fn write(&mut self, spot: Spot, found: &Option<Version>)
+        requires placed { is_placed spot.key found.now ≡ true }
+        ensures { (s k : ℕ) → registered_at self.new s k ≡ written_at (registered_at self.old) spot.site spot.key found.now s k }
+    {
+        let sites = &mut self.sites;
+        sites[spot.site.place()].write(spot.key, found);
+    }
 }

@@ -1,4 +1,4 @@
-ghost use Rattle.std.specs.Prelude.{◌≡◌, Decides};
+ghost use Rattle.std.specs.Prelude.{◌≡◌, ◌↔◌, IsTrue};
 ghost use Rattle.store.specs.Kinds.{Kind, Sound};
 ghost use Rattle.store.specs.Puts.{Asked};
 
@@ -15,14 +15,15 @@ pub trait Store {
 
     ghost state: { Self → kind.State };
 
-    // The version shown at a site and key, or none; refused 14 where either is out of range.
+    // The version shown at a site and key, or none; refused 14 where either is out of range. Kept numbers here, and a
+    // `Spot` inside: they come from outside, and this is where what is out of range is refused.
     fn ask(&mut self, site: u32, key: u32) -> Result<Option<Version>, Refusal>
         ensures answers { Asked (kind.means (state self.old)) site key result }
         ensures stays { state self.new ≡ state self.old };
 
     // Whether the store shows the peaks everywhere.
     fn settled(&mut self) -> bool
-        ensures answers { Decides result ((kind.means (state self.old)).wait ≡ 0) }
+        ensures answers { IsTrue result ↔ ((kind.means (state self.old)).wait ≡ 0) }
         ensures stays { state self.new ≡ state self.old };
 
     // Puts a version at a site; refused 14 where the site is out of range or the record is no version, else

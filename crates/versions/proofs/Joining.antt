@@ -37,21 +37,15 @@ module _ {X : Type 0} {proper : X → Type 0} {neutral : X} {op : X → X → X}
   from_least s [] b h g = h
   from_least s (x ∷ xs) b h g = from_least (op s x) xs b (laws.brackets s x b ∙ ap (op s) (g x (inl refl)) ∙ h) (λ y m. g y (inr m))
 
-  pub joined_proper : (s : X) (xs : List X) → proper s → AllProper proper xs → proper (joined_from op s xs)
+  joined_proper : (s : X) (xs : List X) → proper s → AllProper proper xs → proper (joined_from op s xs)
   joined_proper s [] p q = p
   joined_proper s (x ∷ xs) p q = joined_proper (op s x) xs (laws.proper_join s x p (q x (inl refl))) (λ y m. q y (inr m))
 
-  -- every member is below the join of its list
-  joined_member : (xs : List X) → AllProper proper xs → (y : X) → In y xs → Below y (joined neutral op xs)
-  joined_member xs q = from_member neutral xs laws.proper_neutral q
-
-  joined_least : (xs : List X) (b : X) → proper b → ((y : X) → In y xs → Below y b) → Below (joined neutral op xs) b
-  joined_least xs b p g = from_least neutral xs b (laws.neutral_left b p) g
+  -- so the join of a list is below that of another that has all its members
+  below_join : (xs ys : List X) → AllProper proper ys → ((x : X) → In x xs → In x ys) → Below (joined neutral op xs) (joined neutral op ys)
+  below_join xs ys q among =
+      from_least neutral xs (joined neutral op ys) (laws.neutral_left _ (joined_proper neutral ys laws.proper_neutral q))
+      (λ x m. from_member neutral ys laws.proper_neutral q x (among x m))
 
   pub order_and_repeats : OrderAndRepeatsMakeNoDifference proper neutral op
-  order_and_repeats xs ys p q same =
-      let a = joined neutral op xs in
-      let b = joined neutral op ys in
-      let up : Below a b = joined_least xs b (joined_proper neutral ys laws.proper_neutral q) (λ y m. joined_member ys q y (same.0 y m)) in
-      let down : Below b a = joined_least ys a (joined_proper neutral xs laws.proper_neutral p) (λ y m. joined_member xs p y (same.1 y m)) in
-      sym down ∙ laws.order b a ∙ up
+  order_and_repeats xs ys p q same = sym (below_join ys xs p same.1) ∙ laws.order _ _ ∙ below_join xs ys q same.0

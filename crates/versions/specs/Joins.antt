@@ -1,5 +1,6 @@
 -- Joining lists of what joins lawfully.
 use Rattle.std.specs.Prelude.{◌≡◌, ◌⊎◌, List, [], ◌∷◌}
+use Rattle.std.specs.List.{fold}
 use Rattle.versions.specs.Rows.{stamp, ProperStamp, ProperRow, zeros, joined_stamps, joined_rows}
 
 -- the laws of a join, for the values that are proper (those that code can make)
@@ -19,8 +20,7 @@ pub record JoinLaws {X : Type 0} (proper : X → Type 0) (neutral : X) (op : X �
 
 -- what a list joins to from a value on, taken first to last
 abbrev pub joined_from : {X : Type 0} → (X → X → X) → X → List X → X
-joined_from op sum [] = sum
-joined_from op sum (x ∷ xs) = joined_from op (op sum x) xs
+joined_from op sum xs = fold op sum xs
 
 -- what a list joins to, taken first to last; the neutral element for the empty list
 abbrev pub joined : {X : Type 0} → X → (X → X → X) → List X → X

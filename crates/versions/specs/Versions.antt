@@ -2,9 +2,10 @@
 use Rattle.std.specs.Prelude.{ℕ, Bool, cond, ◌&&◌, ◌==◌, nat_lt}
 use Rattle.stamps.specs.Keys.{every_key}
 use Rattle.stamps.specs.Numbers.{keys}
-use Rattle.stamps.specs.Stamps.{counter_of, is_stamp, is_older}
+use Rattle.stamps.specs.Stamps.{stamp_of, counter_of, is_stamp, is_older}
 use Rattle.stamps.specs.Values.{in_range}
-use Rattle.versions.specs.Rows.{stamp_at, row_of}
+use Rattle.stamps.specs.declared.value.Value.TheVariants.{Free}
+use Rattle.versions.specs.Rows.{stamp, stamp_at, row_of, zeros}
 use Rattle.versions.specs.declared.row.Row.{Row}
 use Rattle.versions.specs.declared.version.Version.{Version}
 
@@ -20,3 +21,7 @@ is_version v =
 -- the reach of a version: its row with its own stamp set in at its own key
 abbrev pub reach : Version → Row
 reach v = row_of (λ k. cond (k == v.key) v.stamp.number (stamp_at v.row k))
+
+-- a version that stands in places that are not in use: key 0, free, counter 1 of terminal 0, resting on nothing
+abbrev pub filler : Version
+filler = record { key = 0; value = Free; stamp = stamp (stamp_of 1 0); row = zeros }

@@ -4,7 +4,6 @@ ghost use Rattle.versions.specs.Rows.{stamp, ProperStamp, ProperRow, zeros, join
 ghost use Rattle.versions.specs.Rowing.{stamp_laws, row_laws};
 
 use crate::row::Row;
-use stamps::limits::PLACES;
 use stamps::stamp::Stamp;
 
 // What joins lawfully: two values have a join, and a neutral element alters nothing.
@@ -42,9 +41,7 @@ impl Join for Stamp {
     }
 
     fn join(&self, other: &Stamp) -> Stamp {
-        Stamp {
-            number: self.number.max(other.number),
-        }
+        (*self).max(*other)
     }
 }
 
@@ -63,11 +60,9 @@ impl Join for Row {
     }
 
     fn join(&self, other: &Row) -> Row {
-        let mut stamps = [Stamp::NONE; PLACES];
-        for k in 0..PLACES {
-            stamps[k] = self.stamps[k].join(&other.stamps[k]);
+        Row {
+            stamps: std::array::from_fn(|k| self.stamps[k].join(&other.stamps[k])),
         }
-        Row { stamps }
     }
 }
 
@@ -75,11 +70,9 @@ impl Join for Row {
 pub fn join_all<T: Join>(values: &[T]) -> T
     ensures { result ≡ joined T.neutral T.op values.now }
 {
-    let mut sum = T::neutral();
-    for value in values {
-        sum = sum.join(value);
-    }
-    sum
+    values
+        .iter()
+        .fold(T::neutral(), |sum, value| sum.join(value))
 }
 
 // Theorem: order and repeats make no difference to what a list joins to. It has no code.

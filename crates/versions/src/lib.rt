@@ -3,4 +3,5 @@
 
 pub mod join;
 pub mod row;
+pub mod valid;
 pub mod version;

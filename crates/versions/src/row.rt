@@ -1,5 +1,6 @@
-ghost use Rattle.std.specs.Prelude.{◌≡◌, Decides};
+ghost use Rattle.std.specs.Prelude.{◌≡◌, ◌↔◌, IsTrue};
 ghost use Rattle.versions.specs.Rows.{Covers, zeros};
+ghost use Rattle.versions.specs.Versions.{row_older};
 
 use stamps::limits::PLACES;
 use stamps::stamp::Stamp;
@@ -12,6 +13,7 @@ pub struct Row {
 
 impl Row {
     // The row of zeros.
+    #[tactic(auto, unfolding(crate::specs::Rows::row_of))]
     pub fn zeros() -> Row
         ensures { result ≡ zeros }
     {
@@ -22,12 +24,18 @@ impl Row {
 
     // Whether this row's stamp is at least the other's at every key.
     pub fn covers(&self, other: &Row) -> bool
-        ensures { Decides result (Covers self.now other.now) }
+        ensures { IsTrue result ↔ Covers self.now other.now }
     {
-        let mut covered = true;
-        for k in 0..PLACES {
-            covered = covered & (other.stamps[k].number <= self.stamps[k].number);
-        }
-        covered
+        self.stamps
+            .iter()
+            .zip(&other.stamps)
+            .all(|(own, others)| others <= own)
+    }
+
+    // Whether each stamp of the row is older than a counter.
+    pub fn is_older(&self, counter: u32) -> bool
+        ensures { result ≡ row_older counter self.now }
+    {
+        self.stamps.iter().all(|stamp| stamp.is_older(counter))
     }
 }

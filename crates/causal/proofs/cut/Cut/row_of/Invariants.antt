@@ -1,16 +1,14 @@
-use Rattle.std.proofs.Common.{◌≡◌, ℕ, ◌≤◌, ◌&&◌, leb}
+use Rattle.std.proofs.Common.{◌≡◌, map}
 use Rattle.stamps.specs.KeySets.{has}
-use Rattle.stamps.specs.Keys.{count_keys}
-use Rattle.stamps.specs.Numbers.{keys}
+use Rattle.versions.specs.Joins.{joined_from}
+use Rattle.versions.specs.Rows.{joined_rows}
+use Rattle.versions.specs.Versions.{reach}
 use Rattle.causal.specs.Holding.{holding}
-use Rattle.causal.specs.Posting.{causes_below, row_of_post}
+use Rattle.causal.specs.Posting.{causes_of, row_of_post}
 use Rattle.causal.proofs.cut.Cut.row_of.Given as goal
 
--- the causes below some key are joined, and those from it on are left
-abbrev pub invariant-loop-k : goal.invariant-loop-k
-invariant-loop-k l =
-    (from : ℕ) × (from ≤ keys) × ((k : ℕ) → has l.left k ≡ (leb from k && has l.initial.left k))
-    × (l.row ≡ row_of_post (causes_below from (holding l.self) (has l.initial.left)))
-
-abbrev pub decreases-loop-k : goal.decreases-loop-k
-decreases-loop-k l = count_keys (has l.left)
+-- with the reaches of the causes that are left, the row becomes that of the post
+abbrev pub invariant-loop-key : goal.invariant-loop-key
+invariant-loop-key l =
+    joined_from joined_rows l.row (map reach (causes_of (holding l.self) (has l.key-iterator.left)))
+    ≡ row_of_post (causes_of (holding l.self) (has l.fn.causes))

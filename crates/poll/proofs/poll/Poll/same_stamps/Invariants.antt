@@ -1,9 +1,14 @@
-use Rattle.std.proofs.Common.{◌≡◌, ℕ, ◌<◌, true}
+use Rattle.std.proofs.Common.{◌≡◌, ℕ, ◌+◌, ◌*◌, ◌<◌}
+use Rattle.stamps.specs.Numbers.{keys}
+use Rattle.causal.specs.Tables.{held_stamp}
+use Rattle.store.specs.Meanings.{InAskRange}
 use Rattle.poll.specs.Holding.{snapshot_of, shown_below, AsItWas}
-use Rattle.poll.specs.Poll.{same_stamps_at}
 use Rattle.poll.proofs.poll.Poll.same_stamps.Given as goal
 
-abbrev pub invariant-loop-site : goal.invariant-loop-site
-invariant-loop-site g l =
-    ((s : ℕ) → s < l.site → same_stamps_at (snapshot_of l.initial.self) (shown_below g.S.Store.kind g.S.Store.state l.initial.self) s ≡ true)
-    × AsItWas g.S.Store.kind g.S.Store.state l.initial.self l.self
+abbrev pub invariant-loop-spot : goal.invariant-loop-spot
+invariant-loop-spot g l = record {
+  so_far :
+      (s k : ℕ) → InAskRange s k → s * keys + k < l.spot-iterator.next
+      → held_stamp (snapshot_of l.initial.self s k) ≡ held_stamp (shown_below g.S.Store.kind g.S.Store.state l.initial.self s k);
+  rest : AsItWas g.S.Store.kind g.S.Store.state l.initial.self l.self;
+}

@@ -1,12 +1,8 @@
-use Rattle.std.proofs.Common.{arith, rules}
+use Rattle.std.proofs.Common.{rules}
 use Rattle.stamps.specs.KeySets.{has}
-use Rattle.stamps.proofs.BitSets.{bit_above, trailing_lowest}
+use Rattle.stamps.proofs.BitSets.{lowest_of}
 use Rattle.stamps.proofs.keyset.KeySet.lowest.Goals as goal
-
-pub returns-then-self-eq0 : goal.returns-then-self-eq0
-unfolding has
-returns-then-self-eq0 c k = bit_above c.args.self.bits 0 k (omega arith) (omega arith)
 
 pub returns : goal.returns
 unfolding has
-returns c = trailing_lowest 32 c.args.self.bits (omega arith) (search rules)
+returns c = rw c.ok.ensures.value (lowest_of c.args.self.bits c.try_from.result (search rules) c.try_from.ensures)

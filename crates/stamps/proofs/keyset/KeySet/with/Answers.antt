@@ -9,5 +9,6 @@ unfolding has
 returns c k =
     let bits = c.args.self.bits in
     let key-bit = 1 * 2 ^ c.args.key % 2 ^ 32 in
-    ap (λ (x : ℕ). bit x k) (or_comm bits key-bit) ∙ bit_of_or key-bit bits k
-    ∙ ap (λ (b : Bool). b || bit bits k) (bit_shl 32 c.args.key k c.requires)
+    rw c.number.ensures.number
+    (ap (λ (x : ℕ). bit x k) (or_comm bits key-bit) ∙ bit_of_or key-bit bits k
+    ∙ ap (λ (b : Bool). b || bit bits k) (bit_shl 32 c.args.key k c.number.ensures.below))
