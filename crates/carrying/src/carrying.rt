@@ -78,8 +78,9 @@ fn tell_sites<S: Store>(rt: &impl Print, store: &mut S, version: &Version) -> an
     ensures { S.Store.state store.new ≡ S.Store.state store.old }
 {
     print!(rt; "the bar is shown at")?;
+    // Kept a flag: that no site shows it is known only when all have been asked.
     let mut shown = false;
-    // Kept a range: a store is asked by numbers, and the number is printed.
+    // Kept a range: a store is asked by numbers, and a `Site` would be turned back into one at once.
     for site in 0..SITES {
         let found = store.ask(site, version.key)?;
         if found.is_some_and(|found| found.stamp == version.stamp) {

@@ -1,5 +1,5 @@
-// What the program stands on. Each function called here has no code: its contract is a theorem about the
-// definitions that the other contracts speak through.
+// What the program stands on. The contract of each function called here is a theorem about the definitions that the
+// other contracts speak through; none does anything when it runs.
 use causal::theorems::{
     choosing_has_one_outcome, drafting_has_one_answer, union_of_fitting_sets_fits,
     withheld_exactly_when_none_contains_it, worked_facts,

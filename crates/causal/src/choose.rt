@@ -16,8 +16,8 @@ use versions::version::Version;
 
 impl Cut {
     // Chooses: of the answers that are newer than the cut, puts in the largest set that leaves it causal, and
-    // says how many keys moved and how many newer answers were withheld. A tuple, as the answer line has them: a rule
-    // of the project.
+    // says how many keys moved and how many newer answers were withheld. Kept a tuple, which
+    // goes up unaltered to the answer line.
     pub fn choose(&mut self, answers: &Answers) -> (u32, u32)
         ensures chosen { Chosen (holding self.old) (answered answers.now) (holding self.new) result.0 result.1 }
         ensures withheld { WithheldHere (holding self.old) (answered answers.now) (holding self.new) }
@@ -50,6 +50,9 @@ impl Cut {
         fitting
     }
 
+    // Kept beside each other in the three steps below, answers and a set of their keys are one choosing's own: a struct
+    // of both would be made and taken apart in one method.
+    //
     // A key of a set of answers whose answer is not covered once they are all put in, or none.
     fn misfit(&self, answers: &Answers, chosen: KeySet) -> Option<Key>
         ensures { MatchOption result

@@ -13,8 +13,8 @@ use versions::version::Version;
 #[derive(Clone, Copy)]
 pub struct Cut {
     pub(crate) held: VersionTable,
-    // The stamp of what is held at each key, 0 for none. Kept beside what is held, a rule of the project: choosing
-    // compares stamps without walking through whole versions.
+    // The stamp of what is held at each key, 0 for none. Kept beside what is held: choosing compares
+    // stamps without walking through whole versions.
     pub(crate) face: Row,
     ghost faced: { face ≡ face_of (held_in held) },
     ghost causal: { Causal (held_in held) },

@@ -20,7 +20,8 @@ use versions::version::Version;
 
 impl Cut {
     // Drafts a post from a sale's keys: its version and the number of its causes. Nothing changes. Refused
-    // 14 where terminal, key or value is out of range, then 23, then 24.
+    // 14 where terminal, key or value is out of range, then 23, then 24. Kept four parameters: a post has no type of its
+    // own before it is drafted.
     pub fn draft(
         &self,
         terminal: u32,
@@ -31,6 +32,7 @@ impl Cut {
         ensures drafted { Drafted (holding self.now) terminal key value (has sale) result }
         ensures enters { IfOk result (λ d. FitToEnter (holding self.now) d.version) }
     {
+        // Kept tests of numbers: the version and its stamp are made of them, and a terminal or key in range is put nowhere.
         if terminal >= TERMINALS || key >= KEYS || !value.in_range() {
             return Err(Refusal::OutOfRange);
         }

@@ -68,7 +68,8 @@ impl VersionTable {
         self.places[version.place()] = Some(version.version());
     }
 
-    // Writes what stands at a key: a version of that key, or none.
+    // Writes what stands at a key: a version of that key, or none. Kept a requires, here and in the registers above:
+    // it has one maker, poll's copying, which has it by the laws of the store below; a type would say the key twice.
     pub fn write(&mut self, key: Key, found: &Option<Version>)
         requires placed { IsPlaced key found.now }
         ensures { (k : ℕ) → held_in self.new k ≡ (if k == key then found.now else held_in self.old k) }

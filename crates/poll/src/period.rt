@@ -26,7 +26,8 @@ impl Model for Period {
 }
 
 impl Period {
-    // The period of so many ticks; refused 14 outside 1 to 8.
+    // The period of so many ticks; refused 14 outside 1 to 8. Kept `new`: a
+    // TryFrom would be the same test under a name that says less of what is made.
     pub fn new(ticks: u32) -> Result<Period, Refusal>
         ensures { MatchResult result (λ p. InPeriodRange ticks × (p ≡ ticks)) (λ e. (e ≡ OutOfRange) × (InPeriodRange ticks → ⊥)) }
     {

@@ -34,6 +34,7 @@ impl<S: Store> Poll<S> {
     }
 }
 
+// Kept in each store, though alike: the few lines of `ask` and `put`, which the trait asks of each.
 impl<S: Store> Store for Poll<S> {
     ghost kind = { poll_kind S.Store.kind };
 

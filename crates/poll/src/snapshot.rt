@@ -66,7 +66,7 @@ impl Snapshot {
         stamp_of(self.held.at(spot))
     }
 
-    // Writes what was copied from a spot.
+    // Writes what was copied from a spot. Kept a requires, as the table's `write` says.
     pub(crate) fn write(&mut self, spot: Spot, found: &Option<Version>)
         requires placed { is_placed spot.key found.now ≡ true }
         ensures written { (s k : ℕ) → registered_at self.new.held s k

@@ -31,11 +31,8 @@ impl Deliveries {
     pub(crate) fn bar(&self) -> Option<Bar>
         ensures { result ≡ deliveries_bar (pending self.now) }
     {
-        if DELIVERY_LIMIT - self.list.len() < PLACES_WANTED {
-            Some(Bar::new(Refusal::DeliveriesFull))
-        } else {
-            None
-        }
+        let full = DELIVERY_LIMIT - self.list.len() < PLACES_WANTED;
+        full.then(|| Bar::new(Refusal::DeliveriesFull))
     }
 
     // Whether nothing is on its way.
@@ -45,7 +42,7 @@ impl Deliveries {
         self.list.is_empty()
     }
 
-    // Adds a delivery at the end of the list.
+    // Adds a delivery at the end of the list. Kept a requires: whether there is room is for the caller to know, by `bar`.
     pub(crate) fn add(&mut self, delivery: Delivery)
         requires { length (pending self.old) < delivery_limit }
         ensures { pending self.new ≡ pending self.old ++ delivery ∷ [] }

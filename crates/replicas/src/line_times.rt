@@ -1,4 +1,4 @@
-ghost use Rattle.std.specs.Prelude.{◌≡◌, ◌<◌};
+ghost use Rattle.std.specs.Prelude.{◌≡◌, ◌<◌, length};
 ghost use Rattle.replicas.specs.Lines.{pair_place, TimesFit, PairsInOrder};
 ghost use Rattle.replicas.specs.Numbers.{pairs};
 
@@ -11,6 +11,7 @@ use std::cmp::Ordering;
 #[derive(Clone, Copy)]
 pub struct LineTimes {
     times: [u32; PAIRS],
+    ghost sized: { length times ≡ pairs },
     ghost limited: { TimesFit times },
 }
 
@@ -22,7 +23,8 @@ impl LineTimes {
     ghost use Rattle.replicas.specs.Times.{times_of};
 
     // The line times of the six pairs; refused 14 where one is above 16. Kept apart from the log's strides and poll's
-    // period: each check is one chain or test, and one type over their sizes and limits would be longer.
+    // period: each check is one chain or test, and one type over their sizes and limits would be longer; and kept `new`:
+    // a TryFrom of an array of numbers would say less of what they are.
     pub fn new(times: [u32; PAIRS]) -> Result<LineTimes, Refusal>
         ensures { MatchResult result (λ l. TimesFit times × (times_of l ≡ times)) (λ e. (e ≡ OutOfRange) × (TimesFit times → ⊥)) }
     {
@@ -37,6 +39,7 @@ impl LineTimes {
         ensures time { result ≡ line_time (times_of self.now) a b }
         ensures sites { (a < sites) × (b < sites) }
     {
+        // Kept by numbers: it is `number` that tells that both sites are in range.
         match a.number().cmp(&b.number()) {
             Ordering::Less => self.times[pair_place(a, b)],
             Ordering::Greater => self.times[pair_place(b, a)],

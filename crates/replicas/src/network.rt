@@ -32,7 +32,7 @@ impl Network {
     }
 
     // Sends a version from a site to every site upward: into the register now where the line time is 0, as it
-    // is at the site itself, else by a delivery.
+    // is at the site itself, else by a delivery. Kept a requires, here and in the next: the bar has told of the room.
     pub(crate) fn put(&mut self, times: &LineTimes, site: Site, version: &ValidVersion)
         requires room { length (pending self.old.deliveries) + places_wanted ≤ delivery_limit }
         ensures { network_state self.new (times_of times.now)

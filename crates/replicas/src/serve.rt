@@ -30,6 +30,7 @@ impl Replicas {
     }
 }
 
+// Kept in each store, though alike: the few lines of `ask` and `put`, which the trait asks of each.
 impl Store for Replicas {
     ghost kind = { replicas_kind };
 

@@ -35,9 +35,8 @@ pub(crate) fn latest(registers: &Registers, seen: &[ValidVersion], key: Key) -> 
 fn taken(key: Key, held: Option<Version>, version: &ValidVersion) -> Option<Version>
     ensures { result ≡ taken_at key held version.now }
 {
-    let version = version.version();
-    if version.key == key.number() && stamp_of(&held) < version.stamp {
-        return Some(version);
+    if version.key() == key && stamp_of(&held) < version.version().stamp {
+        return Some(version.version());
     }
     held
 }

@@ -59,7 +59,8 @@ impl Log {
         &self.tail.as_slice()[..self.readers.at(site)]
     }
 
-    // What a put would now be refused with: 33 when the tail is full.
+    // What a put would now be refused with: 33 when the tail is full. Kept apart from the replicas' bar: another
+    // refusal at another limit, in one test each.
     pub(crate) fn bar(&self) -> Option<Bar>
         ensures { result ≡ tail_bar (log_state self.now).tail }
     {

@@ -11,6 +11,7 @@ use store::range::{check_ask, check_put};
 use store::store::Store;
 use versions::version::Version;
 
+// Kept in each store, though alike: the few lines of `ask` and `put`, which the trait asks of each.
 impl Store for Log {
     ghost kind = { log_kind };
 

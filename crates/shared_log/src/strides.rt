@@ -21,7 +21,8 @@ impl Strides {
     ghost use Rattle.shared_log.specs.Holding.{AreStrides, stride_of};
 
     // The strides of the sites; refused 14 where one is not 1 to 8. Kept apart from line times and periods: each check
-    // is one chain or test, and one type over their sizes and limits would be longer.
+    // is one chain or test, and one type over their sizes and limits would be longer; and kept `new`: a TryFrom of an
+    // array of numbers would say less of what they are.
     pub fn new(strides: [u32; SITE_PLACES]) -> Result<Strides, Refusal>
         ensures { MatchResult result (λ s. (s.strides ≡ strides) × AreStrides strides) (λ e. (e ≡ OutOfRange) × (AreStrides strides → ⊥)) }
     {
@@ -34,7 +35,7 @@ impl Strides {
         Ok(Strides { strides })
     }
 
-    // The stride of a site; 0 where there is no such site.
+    // The stride of a site; 0 where there is no such site. Kept for any number: callers had it so.
     pub fn at(&self, site: u32) -> u32
         ensures { result ≡ stride_of self.now site }
     {

@@ -23,6 +23,7 @@ impl Smallest {
     }
 }
 
+// Kept in each store, though alike: the few lines of `ask` and `put`, which the trait asks of each.
 impl Store for Smallest {
     ghost kind = { smallest_kind };
 

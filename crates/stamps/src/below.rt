@@ -2,7 +2,7 @@ ghost use Rattle.std.specs.Prelude.{◌≡◌, ℕ, ◌+◌, ◌-◌, ◌<◌, �
 ghost use Rattle.std.specs.Iterator.{at_most};
 ghost use Rattle.stamps.specs.declared.refusal.Refusal.TheVariants.{OutOfRange};
 
-use crate::limits::{KEYS, SITES};
+use crate::limits::{KEYS, SITES, TERMINALS};
 use crate::refusal::Refusal;
 use std::marker::Model;
 
@@ -17,6 +17,9 @@ pub type Key = Below<KEYS>;
 
 // The number of a site.
 pub type Site = Below<SITES>;
+
+// The number of a terminal.
+pub type Terminal = Below<TERMINALS>;
 
 impl<const END: u32> Model for Below<END> {
     ghost Value = { ℕ };

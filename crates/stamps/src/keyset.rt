@@ -60,7 +60,8 @@ impl KeySet {
         found
     }
 
-    // Whether a key is in the set; no key out of range is.
+    // Whether a key is in the set; no key out of range is. Kept a test of the number: tried by `Key::try_from` and
+    // `is_ok_and`, and the proof did not close.
     pub fn contains(self, key: u32) -> bool
         ensures found { result ≡ has self key }
         ensures within { has self key ≡ true → key < keys }

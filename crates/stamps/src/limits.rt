@@ -21,8 +21,8 @@ pub const COUNTER_LIMIT: u32 = 1_000_000;
 // Amounts are 0 to 99,999,999 cents.
 pub const AMOUNT_LIMIT: u32 = 99_999_999;
 
-// A bar's depth is 0 to 255, all that its type holds.
-pub const DEPTH_LIMIT: u8 = u8::MAX;
+// A bar's depth is 0 to 255.
+pub const DEPTH_LIMIT: u8 = 255;
 
 // Replacing cards are 0 to 999,999.
 pub const CARD_LIMIT: u32 = 999_999;

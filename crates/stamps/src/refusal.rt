@@ -2,6 +2,7 @@ ghost use Rattle.std.specs.Prelude.{◌≡◌, ◌+◌, min};
 ghost use Rattle.stamps.specs.Numbers.{depth_limit};
 ghost use Rattle.stamps.specs.Refusals.{number};
 
+use crate::limits::DEPTH_LIMIT;
 use thiserror::Error;
 
 // Why something was refused. Each variant's number is the one that answer lines print.
@@ -81,7 +82,7 @@ impl Bar {
     {
         Bar {
             refusal: self.refusal,
-            depth: self.depth.saturating_add(1),
+            depth: self.depth.saturating_add(1).min(DEPTH_LIMIT),
         }
     }
 }

@@ -3,7 +3,8 @@ ghost use Rattle.stamps.specs.Stamps.{InStampRange, is_stamp, is_older, counter_
 ghost use Rattle.stamps.specs.Numbers.{factor};
 ghost use Rattle.stamps.specs.declared.refusal.Refusal.TheVariants.{OutOfRange};
 
-use crate::limits::{COUNTER_LIMIT, FACTOR, TERMINALS};
+use crate::below::Terminal;
+use crate::limits::{COUNTER_LIMIT, FACTOR};
 use crate::refusal::Refusal;
 
 // A stamp as one number, counter × 8 + terminal: the higher stamp wins. 0 stands for none.
@@ -31,21 +32,24 @@ impl Stamp {
             (λ s. InStampRange counter terminal × (s.number ≡ counter * factor + terminal))
             (λ e. (e ≡ OutOfRange) × (InStampRange counter terminal → ⊥)) }
     {
-        if !(1..=COUNTER_LIMIT).contains(&counter) || terminal >= TERMINALS {
+        let terminal = Terminal::try_from(terminal)?;
+        if !(1..=COUNTER_LIMIT).contains(&counter) {
             return Err(Refusal::OutOfRange);
         }
         Ok(Stamp {
-            number: counter * FACTOR + terminal,
+            number: counter * FACTOR + terminal.number(),
         })
     }
 
-    // The counter and the terminal of a stamp, none of 0; a number that is no stamp is refused 14.
+    // The counter and the terminal of a stamp, none of 0; a number that is no stamp is refused 14. Kept a function: a
+    // TryFrom would have one way to have no parts, and here are two.
     pub fn parts(self) -> Result<Option<StampParts>, Refusal>
         ensures { MatchResult result
             (λ o. MatchOption o (self.number ≡ 0)
             (λ p. InStampRange p.counter p.terminal × (self.number ≡ p.counter * factor + p.terminal)))
             (λ e. (e ≡ OutOfRange) × (is_stamp self.number ≡ false) × (self.number ≢ 0)) }
     {
+        // Kept a test against none, as NONE says.
         if self == Stamp::NONE {
             return Ok(None);
         }
@@ -76,6 +80,7 @@ impl Stamp {
     pub fn is_older(self, counter: u32) -> bool
         ensures { result ≡ is_older counter self.number }
     {
+        // Kept a test against none, as NONE says.
         self == Stamp::NONE || self.is_stamp() && self.counter() < counter
     }
 }

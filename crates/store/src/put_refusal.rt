@@ -5,7 +5,7 @@ ghost use Rattle.store.specs.declared.put_refusal.PutRefusal.TheVariants.{Barrin
 use stamps::refusal::{Bar, Refusal};
 use thiserror::Error;
 
-// Why a put was refused. Its text has the number that answer lines print, and the depth of a bar.
+// Why a put was refused. Kept an enum of its own, not an Option of a bar: each case has a name. Its text has the number that answer lines print, and the depth of a bar.
 #[derive(Clone, Copy, Debug, PartialEq, Eq, Error)]
 pub enum PutRefusal {
     // 14: the site is out of range, or the record is no version.
@@ -26,7 +26,7 @@ impl From<Bar> for PutRefusal {
 }
 
 impl PutRefusal {
-    // The refusal, which has the number.
+    // The refusal, which has the number. Kept a method: a From would hide that the depth of a bar is left out.
     pub fn refusal(self) -> Refusal
         ensures { result ≡ refusal_of self }
     {

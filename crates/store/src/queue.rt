@@ -65,7 +65,7 @@ impl<T: Copy, const N: usize> Queue<T, N> {
         &self.places[..self.len]
     }
 
-    // Adds an item at the end. There has to be room.
+    // Adds an item at the end. Kept a requires: whether there is room is for the caller to know, by `len`.
     pub fn push(&mut self, item: T)
         requires { length (items_of self.old) < N }
         ensures { items_of self.new ≡ items_of self.old ++ item ∷ [] }

@@ -14,8 +14,8 @@ use versions::version::Version;
 // Registers by site have one place for each site.
 pub const SITE_PLACES: usize = SITES as usize;
 
-// The spot of a site and a key; refused 14 where either is out of range. Kept a function beside `check_put`: each
-// answers in its own words, and the stores call them by name.
+// The spot of a site and a key; refused 14 where either is out of range. Kept a function: a
+// TryFrom of two numbers would not say which is which.
 pub fn check_ask(site: u32, key: u32) -> Result<Spot, Refusal>
     ensures range { MatchResult result (λ _. InAskRange site key) (λ e. (e ≡ OutOfRange) × (InAskRange site key → ⊥)) }
     ensures spot { IfOk result (λ spot. (spot.site ≡ site) × (spot.key ≡ key)) }
@@ -26,7 +26,8 @@ pub fn check_ask(site: u32, key: u32) -> Result<Spot, Refusal>
     })
 }
 
-// The site and the version of a put; refused 14 where the site is out of range or the record is no version.
+// The site and the version of a put; refused 14 where the site is out of range or the record is no version. Kept a
+// function, as the one above.
 pub fn check_put(site: u32, version: &Version) -> Result<(Site, ValidVersion), PutRefusal>
     ensures range { MatchResult result
         (λ _. InPutRange site version.now)

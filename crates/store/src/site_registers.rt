@@ -40,7 +40,7 @@ impl SiteRegisters {
         *self.at(spot)
     }
 
-    // The stamp in the register of a site and key; 0 for none.
+    // The stamp in the register of a site and key; 0 for none. Kept for any numbers, with 0 where there is no register.
     pub fn stamp_at(&self, site: u32, key: u32) -> Stamp
         ensures { result.number ≡ held_stamp (registered_at self.now site key) }
     {

@@ -2,7 +2,7 @@ ghost use Rattle.std.specs.Prelude.{◌≡◌};
 ghost use Rattle.versions.specs.Versions.{is_version, reach};
 
 use crate::row::Row;
-use stamps::limits::KEYS;
+use stamps::below::Key;
 use stamps::stamp::Stamp;
 use stamps::value::Value;
 
@@ -23,7 +23,7 @@ impl Version {
     pub fn is_version(&self) -> bool
         ensures { result ≡ is_version self.now }
     {
-        self.key < KEYS
+        Key::try_from(self.key).is_ok()
             && self.value.in_range()
             && self.stamp.is_stamp()
             && self.row.is_older(self.stamp.counter())
@@ -34,8 +34,8 @@ impl Version {
         ensures { result ≡ reach self.now }
     {
         let mut row = self.row;
-        if self.key < KEYS {
-            row.stamps[self.key as usize] = self.stamp;
+        if let Ok(key) = Key::try_from(self.key) {
+            row.stamps[key.place()] = self.stamp;
         }
         row
     }

@@ -72,6 +72,7 @@ fn post(
         stamp.number,
         stamp.counter()
     )?;
+    // Kept a test against none: by the rules a row has 0 where it rests on no stamp.
     for (key, stamp) in row.stamps.iter().enumerate() {
         if *stamp != Stamp::NONE {
             println!(rt; "    resting on stamp {} at key {key}", stamp.number)?;
