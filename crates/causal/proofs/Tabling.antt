@@ -59,10 +59,14 @@ causal_with t new i v is above covered causal k w e j =
 pub face_read : (face : Row) (t : Table) → face ≡ face_of t → (k : ℕ) → k < keys → (get_or face.stamps k (stamp 0)).number ≡ held_stamp (t k)
 face_read face t faced k h = sym (stamp_read face k h) ∙ ap (λ (r : Row). stamp_at r k) faced ∙ stamp_at_face t k h
 
+-- its array has a place for each key
+pub face_sized : (face : Row) (t : Table) → face ≡ face_of t → length face.stamps ≡ keys
+face_sized face t faced = ap (λ (r : Row). length r.stamps) faced ∙ row_length (λ k. held_stamp (t k))
+
 -- and writing it
 pub face_set : (face : Row) (t new : Table) (i : ℕ) (v : Version) → face ≡ face_of t → i < keys → ((k : ℕ) → new k ≡ with_version t i v k)
     → ◌≡◌ {A = Row} (record { stamps = set face.stamps i v.stamp }) (face_of new)
 face_set face t new i v faced within put =
-    let size : length face.stamps ≡ keys = ap (λ (r : Row). length r.stamps) faced ∙ row_length (λ k. held_stamp (t k)) in
+    let size = face_sized face t faced in
     row_built (set face.stamps i v.stamp) (λ k. held_stamp (new k)) (length-set face.stamps i v.stamp ∙ size)
     (λ k h. let read = face_read face t faced k h in grind (arith, common_steps, nat_tests))

@@ -1,6 +1,5 @@
 use crate::table::VersionTable;
 use stamps::refusal::Refusal;
-use versions::valid::ValidVersion;
 use versions::version::Version;
 
 // What a store answered at some keys: at each key a version of that key, or none.
@@ -34,11 +33,12 @@ impl Answers {
             (λ e. (e ≡ OutOfRange) × ((is_version version.now ≡ true) × (version.now.key ≡ key) → ⊥)
             × (self.new ≡ self.old)) }
     {
-        let valid = ValidVersion::try_from(*version)?;
-        if version.key != key {
+        // Kept a test of the record, here and where a post enters: tested where it lies, it is copied once and only where
+        // it is taken.
+        if version.key != key || !version.is_version() {
             return Err(Refusal::OutOfRange);
         }
-        self.given.put(&valid);
+        self.given.set(version);
         Ok(())
     }
 }

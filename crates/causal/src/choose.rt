@@ -7,7 +7,6 @@ ghost use Rattle.causal.specs.Choosing.{is_newer, put_in, Fits, LargestFit, Chos
 
 use crate::answers::Answers;
 use crate::cut::Cut;
-use crate::table::some_of;
 use stamps::below::Key;
 use stamps::keyset::KeySet;
 use stamps::stamp::Stamp;
@@ -70,13 +69,16 @@ impl Cut {
         None
     }
 
-    // The face that the cut would have with some answers put in.
+    // The face that the cut would have with some answers put in. Kept a loop of its own, beside the table's: as one
+    // function over arrays of either kind it read every answer and built rows and tables anew, in twice the time.
     fn face_with(&self, answers: &Answers, chosen: KeySet) -> Row
         ensures { result ≡ face_of (put_in (holding self.now) (answered answers.now) (has chosen)) }
     {
-        Row {
-            stamps: some_of(chosen, &answers.given.face().stamps, &self.face.stamps),
+        let mut face = self.face;
+        for key in chosen.keys() {
+            face.stamps[key.place()] = answers.given.stamp_at(key);
         }
+        face
     }
 
     // Replaces the cut by itself with some answers put in; it is not written where there are none.
@@ -87,10 +89,10 @@ impl Cut {
         if chosen.is_empty() {
             return;
         }
-        *self = Cut {
-            held: self.held.with_some_of(&answers.given, chosen),
-            face: self.face_with(answers, chosen),
-        };
+        let face = self.face_with(answers, chosen);
+        let mut held = self.held;
+        held.put_some_of(&answers.given, chosen);
+        *self = Cut { held, face };
     }
 }
 

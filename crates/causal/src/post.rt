@@ -15,7 +15,6 @@ use stamps::stamp::Stamp;
 use stamps::value::Value;
 use versions::join::{Join, join_all};
 use versions::row::Row;
-use versions::valid::ValidVersion;
 use versions::version::Version;
 
 impl Cut {
@@ -64,21 +63,22 @@ impl Cut {
             × (self.new ≡ self.old)) }
         ensures no_stamp_falls { NoStampFalls (holding self.old) (holding self.new) }
     {
-        let valid = ValidVersion::try_from(*version)?;
-        if !self.may_enter(&valid) {
+        if !self.may_enter(version) {
             return Err(Refusal::OutOfRange);
         }
-        self.held.put(&valid);
-        self.face.stamps[valid.place()] = version.stamp;
+        self.held.set(version);
+        self.face.stamps[version.key as usize] = version.stamp;
         Ok(())
     }
 
-    // Whether the face covers a version, and the version stands above the stamp at its key.
-    fn may_enter(&self, version: &ValidVersion) -> bool
+    // Whether a record is a version, the face covers it, and it stands above the stamp at its key.
+    #[tactic(auto, using(versions::proofs::Versioning::key_within))]
+    fn may_enter(&self, version: &Version) -> bool
         ensures { IsTrue result ↔ FitToEnter (holding self.now) version.now }
     {
-        let entering = version.version();
-        self.face.covers(&entering.row) && entering.stamp > self.face.stamps[version.place()]
+        version.is_version()
+            && self.face.covers(&version.row)
+            && version.stamp > self.face.stamps[version.key as usize]
     }
 
     // The counter of the next post: one more than the highest in the face, 1 for an empty cut; refused 23

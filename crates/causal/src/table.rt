@@ -1,5 +1,4 @@
-ghost use Rattle.std.specs.Prelude.{◌≡◌, ℕ, ◌<◌, if◌then◌else◌, length, slice_index_or};
-ghost use Rattle.stamps.specs.KeySets.{has};
+ghost use Rattle.std.specs.Prelude.{◌≡◌, length};
 ghost use Rattle.stamps.specs.Numbers.{keys};
 ghost use Rattle.causal.specs.Tables.{table_of, HoldsVersions, Keyed};
 
@@ -25,6 +24,7 @@ pub struct VersionTable {
 impl VersionTable {
     ghost use Rattle.std.specs.Prelude.{◌≡◌, ℕ, true, if◌then◌else◌, None, ◌==◌};
     ghost use Rattle.stamps.specs.KeySets.{has};
+    ghost use Rattle.versions.specs.Versions.{is_version};
     ghost use Rattle.causal.specs.Choosing.{put_in};
     ghost use Rattle.causal.specs.Held.{held_in};
     ghost use Rattle.causal.specs.Tables.{face_of, held_stamp, with_version, IsPlaced};
@@ -61,15 +61,26 @@ impl VersionTable {
         }
     }
 
+    // Puts a version in at its key, in place of what stood there. Kept a requires, beside `put`: one who has tested a
+    // record, or holds it as tested, need not copy it into the type that carries the fact.
+    #[tactic(auto, unfolding(versions::specs::Versions::is_version))]
+    pub fn set(&mut self, version: &Version)
+        requires { is_version version.now ≡ true }
+        ensures { (k : ℕ) → held_in self.new k ≡ with_version (held_in self.old) version.now.key version.now k }
+    {
+        self.places[version.key as usize] = Some(*version);
+    }
+
     // Puts a version in at its key, in place of what stood there.
     pub fn put(&mut self, version: &ValidVersion)
         ensures { (k : ℕ) → held_in self.new k ≡ with_version (held_in self.old) version.now.key version.now k }
     {
-        self.places[version.place()] = Some(version.version());
+        self.set(&version.version());
     }
 
-    // Writes what stands at a key: a version of that key, or none. Kept a requires, here and in the registers above:
-    // it has one maker, poll's copying, which has it by the laws of the store below; a type would say the key twice.
+    // Writes what stands at a key: a version of that key, or none. Kept a requires, here and in the registers above: of
+    // its makers `put_some_of` has it of the other table, and poll's copying by the laws of the store below; a type would
+    // say the key twice.
     pub fn write(&mut self, key: Key, found: &Option<Version>)
         requires placed { IsPlaced key found.now }
         ensures { (k : ℕ) → held_in self.new k ≡ (if k == key then found.now else held_in self.old k) }
@@ -81,32 +92,17 @@ impl VersionTable {
     pub fn with_some_of(&self, other: &VersionTable, chosen: KeySet) -> VersionTable
         ensures { (k : ℕ) → held_in result k ≡ put_in (held_in self.now) (held_in other.now) (has chosen) k }
     {
-        VersionTable {
-            places: some_of(chosen, &other.places, &self.places),
+        let mut table = *self;
+        table.put_some_of(other, chosen);
+        table
+    }
+
+    // Puts in what another table has at some keys.
+    pub(crate) fn put_some_of(&mut self, other: &VersionTable, chosen: KeySet)
+        ensures { (k : ℕ) → held_in self.new k ≡ put_in (held_in self.old) (held_in other.now) (has chosen) k }
+    {
+        for key in chosen.keys() {
+            self.write(key, other.at(key));
         }
     }
-}
-
-// At each of some keys what one array has there, and at the others what another has.
-pub(crate) fn some_of<T: Copy>(
-    chosen: KeySet,
-    some: &[T; PLACES],
-    others: &[T; PLACES],
-) -> [T; PLACES]
-    ensures length { length result ≡ keys }
-    ensures chosen { (k : ℕ) (e : T) → k < keys
-        → slice_index_or result k e ≡ (if has chosen k then slice_index_or some.now k e else slice_index_or others.now k e) }
-{
-    array::from_fn(
-        |k|
-            requires { k < keys }
-            ensures { (e : T) → result ≡ (if has chosen k then slice_index_or some.entry.now k e else slice_index_or others.entry.now k e) }
-        {
-            if chosen.contains(k as u32) {
-                some[k]
-            } else {
-                others[k]
-            }
-        },
-    )
 }

@@ -1,5 +1,9 @@
-// Examples, run as tests: a table of stamps, choosing on hand-made answers, and the posts of a job.
+// Examples, run as tests: a table of stamps, choosing on hand-made answers, the posts of a job, and stores that a caller takes
+// out of a Result.
 #![tactic(auto)]
+
+#[cfg(test)]
+mod stores;
 
 #[cfg(test)]
 mod tests {

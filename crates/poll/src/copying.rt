@@ -48,9 +48,10 @@ impl<S: Store> Poll<S> {
         ensures shown { result ≡ shown_below S.Store.kind S.Store.state self.old spot.now.site spot.now.key }
         ensures rest { AsItWas S.Store.kind S.Store.state self.old self.new }
     {
-        self.below
-            .ask(spot.site.number(), spot.key.number())
-            .ok()
-            .flatten()
+        // Kept a match: `.ok().flatten()` moves a version twice more, 128 times in each copying.
+        match self.below.ask(spot.site.number(), spot.key.number()) {
+            Ok(found) => found,
+            Err(_) => None,
+        }
     }
 }

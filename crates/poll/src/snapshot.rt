@@ -74,6 +74,7 @@ impl Snapshot {
         ensures lasting { self.new.period ≡ self.old.period }
         ensures counted { self.new.countdown ≡ self.old.countdown }
     {
-        self.held.write(spot, found);
+        self.held
+            .write(spot.site.number(), spot.key.number(), found);
     }
 }

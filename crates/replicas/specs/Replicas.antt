@@ -7,7 +7,7 @@ use Rattle.versions.specs.Versions.{is_version}
 use Rattle.versions.specs.declared.version.Version.{Version}
 use Rattle.causal.specs.Tables.{held_stamp}
 use Rattle.store.specs.Kinds.{Kind}
-use Rattle.store.specs.Meanings.{Meaning}
+use Rattle.store.specs.Meanings.{Meaning, InPutRange}
 use Rattle.store.specs.Puts.{PutLeaves}
 use Rattle.store.specs.Registers.{is_placed, came_to, came_at, Sites, all_held_at, highest_of_key}
 use Rattle.replicas.specs.Lines.{line_time, TimesFit}
@@ -115,6 +115,10 @@ is_delivery d = is_version d.version && (nat_lt d.site sites && (nat_le 1 d.left
 abbrev pub are_deliveries : List Delivery → Bool
 are_deliveries [] = true
 are_deliveries (d ∷ ds) = is_delivery d && are_deliveries ds
+
+-- whatever its ticks, it can be delivered: it is of a version, to a site
+abbrev pub Addressed : Delivery → Type 0
+Addressed d = InPutRange d.site d.version
 
 -- the highest stamp of a key on its way to a site, 0 where there is none
 abbrev pub on_the_way : ℕ → ℕ → List Delivery → ℕ

@@ -1,8 +1,9 @@
 ghost use Rattle.std.specs.Prelude.{◌≡◌, ℕ, ◌<◌, not, [], ◌∷◌, ◌++◌, ◌↔◌, IsTrue, map, length, filter};
+ghost use Rattle.std.specs.List.{AllByRecursion};
 ghost use Rattle.store.specs.Holding.{registered_at};
 ghost use Rattle.replicas.specs.Numbers.{delivery_limit};
-ghost use Rattle.replicas.specs.Pending.{pending};
-ghost use Rattle.replicas.specs.Replicas.{lowered, has_come, delivered, deliveries_bar};
+ghost use Rattle.replicas.specs.Pending.{pending, any_come};
+ghost use Rattle.replicas.specs.Replicas.{Addressed, lowered, has_come, delivered, deliveries_bar};
 
 use crate::delivery::Delivery;
 use crate::limits::{DELIVERY_LIMIT, PLACES_WANTED};
@@ -50,15 +51,22 @@ impl Deliveries {
         self.list.push(delivery);
     }
 
-    // Takes one tick from each delivery.
-    pub(crate) fn lower(&mut self)
-        ensures { pending self.new ≡ map lowered (pending self.old) }
+    // Takes one tick from each delivery, and tells whether any has come.
+    pub(crate) fn lower(&mut self) -> bool
+        ensures lowered { pending self.new ≡ map lowered (pending self.old) }
+        ensures due { result ≡ any_come (pending self.new) }
     {
         self.list.update(|delivery| delivery.tick());
+        self.list
+            .as_slice()
+            .iter()
+            .any(|delivery| delivery.has_come())
     }
 
-    // Delivers what has come into the registers, in list order.
+    // Delivers what has come into the registers, in list order. Kept a requires, here and in a tick: deliveries are plain
+    // records, and the replicas' good state tells that they are addressed.
     pub(crate) fn deliver(&self, registers: &mut SiteRegisters)
+        requires { AllByRecursion Addressed (pending self.now) }
         ensures { (s k : ℕ) → registered_at registers.new s k
             ≡ delivered (registered_at registers.old) (filter has_come (pending self.now)) s k }
     {

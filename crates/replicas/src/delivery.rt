@@ -2,14 +2,16 @@ ghost use Rattle.std.specs.Prelude.{◌≡◌};
 ghost use Rattle.versions.specs.Versions.{filler};
 ghost use Rattle.replicas.specs.Replicas.{lowered, has_come};
 
-use stamps::below::Site;
 use versions::valid::ValidVersion;
+use versions::version::Version;
 
-// A version on its way to a site, with the ticks left until it comes.
+// A version on its way to a site, with the ticks left until it comes. Kept a plain record, of which the replicas' good
+// state says the rest: where a store holds an array of what has an impl Model, the kit proves no caller that takes the
+// store by `?`.
 #[derive(Clone, Copy)]
 pub(crate) struct Delivery {
-    pub(crate) version: ValidVersion,
-    pub(crate) site: Site,
+    pub(crate) version: Version,
+    pub(crate) site: u32,
     pub(crate) left: u32,
 }
 
@@ -19,8 +21,8 @@ impl Delivery {
         ensures { result ≡ record { version = filler; site = 0; left = 0 } }
     {
         Delivery {
-            version: ValidVersion::filler(),
-            site: Site::try_from(0).unwrap(),
+            version: ValidVersion::filler().version(),
+            site: 0,
             left: 0,
         }
     }

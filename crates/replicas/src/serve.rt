@@ -50,7 +50,7 @@ impl Store for Replicas {
     }
 
     fn put(&mut self, site: u32, version: Version) -> Result<(), PutRefusal> {
-        let (site, version) = check_put(site, &version)?;
+        let (site, _) = check_put(site, &version)?;
         if let Some(bar) = self.network.deliveries.bar() {
             return Err(PutRefusal::Barring(bar));
         }

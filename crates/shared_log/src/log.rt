@@ -18,7 +18,7 @@ use versions::version::Version;
 #[derive(Clone, Copy)]
 pub struct Log {
     base: Registers,
-    pub(crate) tail: Queue<ValidVersion, TAIL_LIMIT>,
+    pub(crate) tail: Queue<Version, TAIL_LIMIT>,
     readers: Readers,
     ghost good: { LogGood (state_of base tail readers) },
 }
@@ -36,7 +36,7 @@ impl Log {
         ensures new { New (log_means (log_state result)) }
     {
         let base = Registers::new();
-        let tail = Queue::new(ValidVersion::filler());
+        let tail = Queue::new(ValidVersion::filler().version());
         let readers = Readers::new(&strides);
         Log {
             base,
@@ -53,7 +53,7 @@ impl Log {
     }
 
     // The versions of the tail that a site has read.
-    fn read_at(&self, site: Site) -> &[ValidVersion]
+    fn read_at(&self, site: Site) -> &[Version]
         ensures { result.now ≡ take ((log_state self.now).position site) (log_state self.now).tail }
     {
         &self.tail.as_slice()[..self.readers.at(site)]
@@ -72,7 +72,8 @@ impl Log {
     pub(crate) fn read_on(&mut self)
         ensures { log_state self.new ≡ after_tick (log_state self.old) }
     {
-        self.readers.move_on(self.tail.len());
+        let end = self.tail.len();
+        self.readers.move_on(end);
         let read_by_all = self.readers.lowest();
         bring(&self.tail.as_slice()[..read_by_all], &mut self.base);
         self.tail.drop_first(read_by_all);

@@ -31,7 +31,7 @@ impl Store for Log {
     }
 
     fn put(&mut self, site: u32, version: Version) -> Result<(), PutRefusal> {
-        let (_, version) = check_put(site, &version)?;
+        check_put(site, &version)?;
         if let Some(bar) = self.bar() {
             return Err(PutRefusal::Barring(bar));
         }

@@ -43,7 +43,7 @@ impl Store for Smallest {
     }
 
     fn put(&mut self, site: u32, version: Version) -> Result<(), PutRefusal> {
-        let (_, version) = check_put(site, &version)?;
+        check_put(site, &version)?;
         self.registers.take(&version);
         Ok(())
     }

@@ -1,8 +1,8 @@
 -- Registers: what stands in them, and what a version that comes to one leaves.
-use Rattle.std.proofs.Common.{◌≡◌, ℕ, ◌<◌, ◌≤◌, max, true, ◌≢◌, ◌⊎◌, length, Some, None, Option, refl, ⊎_elim, arith}
+use Rattle.std.proofs.Common.{◌≡◌, ℕ, ◌<◌, ◌≤◌, max, true, ◌≢◌, ◌⊎◌, length, Some, None, Option, refl, sym, ap, ◌∙◌, inl, inr, ⊎_elim, arith}
 use Rattle.std.proofs.lemmas.Grind.{common_steps}
-use Rattle.std.proofs.lemmas.Bool.{cases_lt}
-use Rattle.stamps.specs.Numbers.{keys}
+use Rattle.std.proofs.lemmas.Bool.{cases_eq, cases_lt}
+use Rattle.stamps.specs.Numbers.{keys, sites}
 use Rattle.versions.specs.Versions.{is_version}
 use Rattle.versions.specs.declared.version.Version.{Version}
 use Rattle.causal.specs.Tables.{Table, held_stamp}
@@ -11,7 +11,7 @@ use Rattle.std.specs.List.{slice_get}
 use Rattle.std.proofs.lemmas.Option.{slice_get_past}
 use Rattle.store.specs.Holding.{registered_if, registered_at}
 use Rattle.store.specs.Meanings.{InAskRange}
-use Rattle.store.specs.Registers.{is_placed, taken, came_to, came_at, Sites}
+use Rattle.store.specs.Registers.{is_placed, taken, came_to, came_at, written_at, Sites}
 use Rattle.store.specs.declared.registers.Registers.{Registers}
 use Rattle.store.specs.declared.site_registers.SiteRegisters.{SiteRegisters}
 
@@ -60,6 +60,13 @@ came_here t v k e = grind (arith, common_steps)
 pub came_there : (t : Table) (v : Version) (k : ℕ) → k ≢ v.key → came_to t v k ≡ t k
 came_there t v k ne = grind (arith, common_steps)
 
+-- a version that is not higher leaves all registers as they are
+pub came_left : (t : Table) (v : Version) → v.stamp.number ≤ held_stamp (t v.key) → (k : ℕ) → t k ≡ came_to t v k
+came_left t v down k = ⊎_elim here (λ ne. sym (came_there t v k ne)) (cases_eq k v.key)
+  where
+    here : k ≡ v.key → t k ≡ came_to t v k
+    here e = sym (came_here t v k e ∙ taken_lower (t k) v (omega (arith, down, ap (λ (j : ℕ). held_stamp (t j)) e)))
+
 -- all stays placed
 pub came_placed : (t : Table) (v : Version) → ((k : ℕ) → is_placed k (t k) ≡ true) → is_version v ≡ true → (k : ℕ) → is_placed k (came_to t v k) ≡ true
 came_placed t v p is k = grind (arith, common_steps, taken_placed, p k)
@@ -76,6 +83,21 @@ came_at_there t site v s k ne = grind (arith, common_steps)
 pub came_at_placed : (t : Sites) (site : ℕ) (v : Version) → ((s k : ℕ) → is_placed k (t s k) ≡ true) → is_version v ≡ true
     → (s k : ℕ) → is_placed k (came_at t site v s k) ≡ true
 came_at_placed t site v p is s k = grind (arith, common_steps, came_placed (t s) v (p s) is k, p s k)
+
+-- what is written stands at its key, and all else as before
+pub written_placed : (t : Sites) (site key : ℕ) (x : Option Version) → is_placed key x ≡ true → ((s k : ℕ) → is_placed k (t s k) ≡ true)
+    → (s k : ℕ) → is_placed k (written_at t site key x s k) ≡ true
+written_placed t site key x new old s k = grind (arith, common_steps, old s k)
+
+-- writing a higher version at its key is what the rule says
+pub written_higher : (t : Sites) (site : ℕ) (v : Version) → held_stamp (t site v.key) < v.stamp.number
+    → (s k : ℕ) → written_at t site v.key (Some v) s k ≡ came_at t site v s k
+written_higher t site v up s k = grind (arith, common_steps)
+
+-- a site past the sites, or a key past the keys, is out of range
+pub out_of_ask_range : (site key : ℕ) → (sites ≤ site) ⊎ ((site < sites) × (keys ≤ key)) → InAskRange site key → ⊥
+out_of_ask_range site key (inl past) h = omega (arith, past, h.0)
+out_of_ask_range site key (inr past) h = omega (arith, past.1, h.1)
 
 -- registers hold nothing out of range
 pub past_registers : (r : SiteRegisters) (site key : ℕ) → (InAskRange site key → ⊥) → registered_at r site key ≡ None

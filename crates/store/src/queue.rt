@@ -92,9 +92,11 @@ impl<T: Copy, const N: usize> Queue<T, N> {
         let mut kept = 0;
         // Kept an index loop: the item is read at one place of the array and written at another.
         for place in 0..self.len {
-            let item = self.places[place];
-            if keep(&item) {
-                self.places[kept] = item;
+            if keep(&self.places[place]) {
+                // an item that stands where it stays is not copied
+                if kept != place {
+                    self.places[kept] = self.places[place];
+                }
                 kept += 1;
             }
         }

@@ -1,6 +1,5 @@
 use causal::table::VersionTable;
 use stamps::below::Key;
-use versions::valid::ValidVersion;
 use versions::version::Version;
 
 // A register for each key: a version of that key, or none.
@@ -11,6 +10,7 @@ pub struct Registers {
 
 impl Registers {
     ghost use Rattle.std.specs.Prelude.{◌≡◌, ℕ, true, None};
+    ghost use Rattle.versions.specs.Versions.{is_version};
     ghost use Rattle.store.specs.Holding.{registered};
     ghost use Rattle.store.specs.Registers.{is_placed, came_to, written_to};
 
@@ -37,12 +37,17 @@ impl Registers {
         self.held.at(key)
     }
 
-    // Brings a version to the register of its key, which takes it only if its stamp is higher.
-    pub fn take(&mut self, version: &ValidVersion)
+    // Brings a version to the register of its key, which takes it only if its stamp is higher. Kept a requires, and a
+    // plain record: a store of anyone's holds versions as it likes.
+    #[tactic(auto, unfolding(versions::specs::Versions::is_version))]
+    pub fn take(&mut self, version: &Version)
+        requires { is_version version.now ≡ true }
         ensures { (k : ℕ) → registered self.new k ≡ came_to (registered self.old) version.now k }
     {
-        if self.held.stamp_at(version.key()) < version.version().stamp {
-            self.held.put(version);
+        if let Ok(key) = Key::try_from(version.key) {
+            if self.held.stamp_at(key) < version.stamp {
+                self.held.set(version);
+            }
         }
     }
 

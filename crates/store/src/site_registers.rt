@@ -5,9 +5,8 @@ use crate::range::{SITE_PLACES, check_ask};
 use crate::registers::Registers;
 use crate::spot::Spot;
 use causal::choose::stamp_of;
-use stamps::below::Site;
+use stamps::below::Key;
 use stamps::stamp::Stamp;
-use versions::valid::ValidVersion;
 use versions::version::Version;
 
 // Registers for each site: at each key a version of that key, or none.
@@ -21,6 +20,7 @@ impl SiteRegisters {
     ghost use Rattle.std.specs.Prelude.{◌≡◌, ℕ, true, None};
     ghost use Rattle.causal.specs.Tables.{held_stamp};
     ghost use Rattle.store.specs.Holding.{registered_at};
+    ghost use Rattle.store.specs.Meanings.{InAskRange, InPutRange};
     ghost use Rattle.store.specs.Registers.{is_placed, came_at, written_at};
 
     // Empty registers.
@@ -54,20 +54,25 @@ impl SiteRegisters {
         self.sites[spot.site.place()].at(spot.key)
     }
 
-    // Brings a version to the register of its key at a site, which takes it only if its stamp is higher.
-    pub fn take(&mut self, site: Site, version: &ValidVersion)
+    // Brings a version to the register of its key at a site, which takes it only if its stamp is higher. Kept a requires,
+    // here and in `write`, as registers by key have it.
+    pub fn take(&mut self, site: u32, version: &Version)
+        requires { InPutRange site version.now }
         ensures { (s k : ℕ) → registered_at self.new s k ≡ came_at (registered_at self.old) site version.now s k }
     {
         let sites = &mut self.sites;
-        sites[site.place()].take(version);
+        sites[site as usize].take(version);
     }
 
     // Writes what the register of a site and key holds, whatever it held.
-    pub fn write(&mut self, spot: Spot, found: &Option<Version>)
-        requires placed { is_placed spot.key found.now ≡ true }
-        ensures { (s k : ℕ) → registered_at self.new s k ≡ written_at (registered_at self.old) spot.site spot.key found.now s k }
+    pub fn write(&mut self, site: u32, key: u32, found: &Option<Version>)
+        requires in_range { InAskRange site key }
+        requires placed { is_placed key found.now ≡ true }
+        ensures { (s k : ℕ) → registered_at self.new s k ≡ written_at (registered_at self.old) site key found.now s k }
     {
         let sites = &mut self.sites;
-        sites[spot.site.place()].write(spot.key, found);
+        if let Ok(key) = Key::try_from(key) {
+            sites[site as usize].write(key, found);
+        }
     }
 }

@@ -80,8 +80,7 @@ impl ValidVersion {
         Key::try_from(self.version.key).unwrap()
     }
 
-    // The place of its key in a table. Kept beside `key`, in place of two calls: with those the proofs of the cut did not
-    // close as they stand.
+    // The place of its key in a table. Kept beside `key`: it is for whoever keeps versions in an array by their keys.
     #[tactic(auto, unfolding(crate::specs::Versions::is_version))]
     pub fn place(&self) -> usize
         ensures place { result ≡ self.now.key }

@@ -1,16 +1,21 @@
 use Rattle.std.proofs.Common.{rules}
-use Rattle.versions.specs.Rows.{stamp}
 use Rattle.versions.specs.Rowing.{row_built}
-use Rattle.causal.specs.Holding.{holding, answered}
-use Rattle.causal.proofs.Tabling.{face_read}
+use Rattle.causal.specs.Holding.{holding}
+use Rattle.causal.proofs.Tabling.{face_read, face_sized}
 use Rattle.causal.proofs.cut.Cut.face_with.Goals as goal
+
+pub loop-key-init : goal.loop-key-init
+loop-key-init c =
+    let cut = c.args.self.now in
+    record {
+      sized = face_sized cut.face (holding cut) cut.faced;
+      stamped = λ k h. let read = face_read cut.face (holding cut) cut.faced k h in search rules;
+    }
 
 pub returns : goal.returns
 returns c =
-    let cut = c.args.self.now in
-    row_built _ _ c.some_of.ensures.length
+    row_built _ _ c.loop-key.invariant.sized
     (λ k h.
-    let given = face_read c.face.result (answered c.args.answers.now) c.face.ensures k h in
-    let held = face_read cut.face (holding cut) cut.faced k h in
-    let mixed = c.some_of.ensures.chosen k (stamp 0) h in
+    let stamped = c.loop-key.invariant.stamped k h in
+    let gone = c.in-None.ensures.steps.0 k in
     search rules)

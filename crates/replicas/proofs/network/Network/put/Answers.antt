@@ -18,6 +18,7 @@ pub send-requires : goal.send-requires
 send-requires c =
     let steps = c.in-Some.ensures.steps in
     record {
+      valid = c.requires.valid;
       room = sent_fits c.loop-to.to-iterator.next _ _ _ _ _ _ _ steps.1 c.between.ensures.time c.loop-to.invariant.later steps.0
           c.between.ensures.sites.0 c.requires.room;
     }

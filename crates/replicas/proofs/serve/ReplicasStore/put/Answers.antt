@@ -13,6 +13,6 @@ invariant_of-self c =
     let r = c.args.self.now in
     let put = c.in_ok-site.ensures.put in
     record {
-      good = rw c.put.ensures (put_good (replicas_state r) c.in_ok-site.site c.in_ok-site.version r.good (rw (put.0, put.1) c.in_ok-site.ensures.range)
+      good = rw c.put.ensures (put_good (replicas_state r) c.in_ok-site.site c.args.version r.good (rw put.0 c.in_ok-site.ensures.range)
           (sym c.bar.ensures ∙ c.in_default.is));
     }

@@ -5,10 +5,16 @@ use Rattle.shared_log.specs.Log.{after_tick}
 use Rattle.shared_log.specs.Logging.{tick_good}
 use Rattle.shared_log.specs.Positioning.{lowest_at_most}
 use Rattle.shared_log.specs.States.{log_state}
+use Rattle.shared_log.specs.Tailing.{versions_parts}
 use Rattle.shared_log.proofs.log.Log.read_on.Goals as goal
 
 pub slice_bounds-bring-end : goal.slice_bounds-bring-end
 slice_bounds-bring-end c = grind (arith, common_steps, lowest_at_most (position_of c.move_on.new.self) 0 (omega arith))
+
+pub bring-requires : goal.bring-requires
+bring-requires c =
+    let l = c.args.self.now in
+    rw c.as_slice.ensures.value (versions_parts c.lowest-read_by_all.result (log_state l).tail l.good.tail_fits).0
 
 pub drop_first-requires : goal.drop_first-requires
 drop_first-requires c = grind (arith, lowest_at_most (position_of c.move_on.new.self) 0 (omega arith))

@@ -7,10 +7,10 @@ use Rattle.shared_log.specs.States.{log_state}
 use Rattle.shared_log.proofs.serve.LogStore.put.Goals as goal
 
 pub returns-in-Some : goal.returns-in-Some
-returns-in-Some c = refused_barred c.in_ok-version.ensures.range c.in-Some.bar (sym c.in-Some.ensures) refl refl
+returns-in-Some c = refused_barred c.in_ok-check_put.ensures.range c.in-Some.bar (sym c.in-Some.ensures) refl refl
 
 pub invariant_of-self : goal.invariant_of-self
 invariant_of-self c =
     let l = c.args.self.now in
     let after : state_of l.base c.push.new.self l.readers ≡ after_put (log_state l) c.args.version = search rules in
-    record { good = rw after (put_good (log_state l) c.args.version l.good c.in_ok-version.ensures.range.1 (sym c.in_default.ensures)) }
+    record { good = rw after (put_good (log_state l) c.args.version l.good c.in_ok-check_put.ensures.range.1 (sym c.in_default.ensures)) }

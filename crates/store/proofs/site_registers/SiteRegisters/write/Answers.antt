@@ -4,5 +4,5 @@ use Rattle.std.proofs.lemmas.Grind.{common_steps}
 use Rattle.std.proofs.lemmas.Option.{gets}
 use Rattle.store.proofs.site_registers.SiteRegisters.write.Goals as goal
 
-pub returns : goal.returns
-returns c s k = grind (arith, common_steps, gets, cases_Bool (eqb s c.args.spot.site))
+pub returns-in-Ok : goal.returns-in-Ok
+returns-in-Ok c s k = grind (arith, common_steps, gets, cases_Bool (eqb s c.args.site))
