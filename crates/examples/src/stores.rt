@@ -52,12 +52,13 @@ fn over_the_log(site: u32) -> Result<bool, Refusal> {
     Ok(carries(&mut log()?, site))
 }
 
-fn over_polled_replicas(period: Period, site: u32) -> Result<bool, Refusal> {
-    let mut store = Poll::new(period, replicas()?);
+fn over_polled_replicas(ticks: u32, site: u32) -> Result<bool, Refusal> {
+    let mut store = Poll::new(Period::new(ticks)?, replicas()?);
     Ok(carries(&mut store, site))
 }
 
-fn over_the_polled_log(period: Period, site: u32) -> Result<bool, Refusal> {
+fn over_the_polled_log(ticks: u32, site: u32) -> Result<bool, Refusal> {
+    let period = Period::new(ticks)?;
     let mut store = Poll::new(period, Poll::new(period, log()?));
     Ok(carries(&mut store, site))
 }
@@ -68,8 +69,7 @@ fn every_make_of_store_is_taken_out_of_a_result(rt: HostRuntime) {
     assert!(rt; over_the_log(3) == Ok(true));
     assert!(rt; over_replicas(4) == Ok(false));
     assert!(rt; over_the_log(4) == Ok(false));
-    if let Ok(period) = Period::new(2) {
-        assert!(rt; over_polled_replicas(period, 3) == Ok(true));
-        assert!(rt; over_the_polled_log(period, 3) == Ok(true));
-    }
+    assert!(rt; over_polled_replicas(2, 3) == Ok(true));
+    assert!(rt; over_the_polled_log(2, 3) == Ok(true));
+    assert!(rt; over_polled_replicas(9, 3) == Err(Refusal::OutOfRange));
 }
