@@ -1,5 +1,5 @@
 -- Posting: the next counter, the causes, and their joined reaches.
-use Rattle.std.proofs.Common.{◌≡◌, ℕ, zero, suc, ◌<◌, ◌≤◌, Bool, true, false, cond, not, ◌&&◌, eqb, ◌⊎◌, List, [], ◌∷◌, ◌++◌, map, length, get_or, is_some, Some, refl, ap, ◌∙◌, inl, inr, ⊎_elim, le_refl, arith}
+use Rattle.std.proofs.Common.{◌≡◌, ℕ, zero, suc, ◌<◌, ◌≤◌, Bool, true, false, cond, not, ◌&&◌, eqb, ◌⊎◌, List, [], ◌∷◌, ◌++◌, map, length, get_or, is_some, Some, sym, refl, ap, ◌∙◌, inl, inr, ⊎_elim, le_refl, arith}
 use Rattle.std.specs.Option.{option_to_list}
 use Rattle.std.proofs.lemmas.Grind.{common_steps}
 use Rattle.std.proofs.lemmas.Bool.Decides.{nat_tests}
@@ -62,11 +62,19 @@ joined_highest r long highest is =
 
 -- ---- the causes
 
+-- keys that are not in the sale add none
+pub causes_skip : (n k : ℕ) (t : Table) (sale : ℕ → Bool) → n ≤ k → ((j : ℕ) → n ≤ j → j < k → sale j ≡ false) → causes_below k t sale ≡ causes_below n t sale
+unfolding causes_below
+causes_skip n zero t sale h off = let none : 0 ≡ n = omega arith in ap (λ (m : ℕ). causes_below m t sale) none
+causes_skip n (suc k) t sale h off = elim (cases_eq n (suc k)) [
+  | inl e ↦ ap (λ (m : ℕ). causes_below m t sale) (sym e)
+  | inr ne ↦ let before = causes_skip n k t sale (omega arith) in grind (arith, common_steps)
+]
+
 -- a sale without keys has none
 pub causes_none : (n : ℕ) (t : Table) (sale : ℕ → Bool) → ((k : ℕ) → k < n → sale k ≡ false) → causes_below n t sale ≡ []
 unfolding causes_below
-causes_none zero t sale off = refl
-causes_none (suc n) t sale off = grind (arith, common_steps, causes_none n t sale)
+causes_none n t sale off = causes_skip 0 n t sale (omega arith) (λ k _ l. off k l)
 
 -- what is held at the lowest key of a sale comes first, and the causes of the other keys after it
 pub causes_lowest : (n : ℕ) (t : Table) (sale others : ℕ → Bool) (key : ℕ) → key < n → sale key ≡ true → ((k : ℕ) → k < key → sale k ≡ false)
@@ -130,11 +138,11 @@ post_each Q none both t each sale zero = none
 post_each Q none both t each sale (suc n) = let before = post_each Q none both t each sale n in let held = each n in grind (arith, common_steps)
 
 -- so the face covers it
-post_covered : (t : Table) → Keyed t → Causal t → (sale : ℕ → Bool) → Covers (face_of t) (row_of_post (causes_of t sale))
+pub post_covered : (t : Table) → Keyed t → Causal t → (sale : ℕ → Bool) → Covers (face_of t) (row_of_post (causes_of t sale))
 post_covered t keyed causal sale = post_each (Covers (face_of t)) (covers_zeros (face_of t)) (covers_join (face_of t)) t (covers_reach t keyed causal) sale keys
 
 -- a row has at each key a stamp, or none
-abbrev Stamped : Row → Type 0
+abbrev pub Stamped : Row → Type 0
 Stamped r = (k : ℕ) → (stamp_at r k ≡ 0) ⊎ (is_stamp (stamp_at r k) ≡ true)
 
 -- so has the join of two such rows
@@ -150,11 +158,11 @@ stamped_reach v is k =
     (λ l. inl (stamp_past (reach v) k l)) (cases_lt k keys)
 
 -- and the row of a post
-post_stamped : (t : Table) → HoldsVersions t → (sale : ℕ → Bool) → Stamped (row_of_post (causes_of t sale))
+pub post_stamped : (t : Table) → HoldsVersions t → (sale : ℕ → Bool) → Stamped (row_of_post (causes_of t sale))
 post_stamped t versions sale = post_each Stamped (λ k. inl (stamp_at_zeros k)) stamped_join t (λ k v e. stamped_reach v (versions k v e)) sale keys
 
 -- every stamp of the face has a counter below the next
-face_before : (t : Table) (k : ℕ) → k < keys → counter_of (held_stamp (t k)) < next_counter t
+pub face_before : (t : Table) (k : ℕ) → k < keys → counter_of (held_stamp (t k)) < next_counter t
 face_before t k h = omega (arith, highest_bound keys (λ j. counter_of (stamp_at (face_of t) j)) k h, ap counter_of (stamp_at_face t k h))
 
 -- a row of a post that is not older has a counter that is not below

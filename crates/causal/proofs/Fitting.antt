@@ -20,7 +20,7 @@ module _ (old answers : Table) where
   HasContained chosen = (k : ℕ) → is_newer old answers k ≡ true → (table : Table) → Contained old answers k table → chosen k ≡ true
 
   -- newer answers put in leave no stamp fallen
-  put_rises : (chosen : ℕ → Bool) → AllNewer chosen → (k : ℕ) → held_stamp (old k) ≤ held_stamp (put_in old answers chosen k)
+  pub put_rises : (chosen : ℕ → Bool) → AllNewer chosen → (k : ℕ) → held_stamp (old k) ≤ held_stamp (put_in old answers chosen k)
   put_rises chosen all k = grind (arith, nat_tests)
 
   -- and more of them leave none lower than fewer do

@@ -1,7 +1,7 @@
 -- The poll layer over any make of store that keeps the laws of every store keeps them too.
 use Rattle.std.specs.Prelude.{◌≡◌, ℕ, ◌-◌, ◌≤◌, ◌⊎◌, Bool, true, cond, ◌&&◌, List, ◌++◌, Some, None, Option, ◌==◌, refl}
 use Rattle.std.proofs.Common.{rules, inl, inr, ⊎_elim, sym, ap, ap₂, subst, ◌∙◌, arith}
-use Rattle.std.proofs.lemmas.Bool.{cases_Bool, cases_eq, cond-true, cond-false}
+use Rattle.std.proofs.lemmas.Bool.{cases_Bool, cases_eq, cond-true, cond-false, eqb-true, and_parts}
 use Rattle.std.proofs.lemmas.Bool.Decides.{Decides-and, Decides-eqb, not_from_Decides}
 use Rattle.stamps.specs.Numbers.{sites}
 use Rattle.versions.specs.Joins.{In}
@@ -37,6 +37,12 @@ module _ (K : Kind) where
   -- the layer is settled
   abbrev Settled : PollState K → Type 0
   Settled s = ((K.means s.below).wait ≡ 0) × SameStamps s.snapshot (K.means s.below).shown
+
+  -- settled by its test: there is no wait below, and the stamps are the same by theirs
+  rest_parts : (s : PollState K) → poll_settled K s ≡ true → ((K.means s.below).wait ≡ 0) × (same_stamps s.snapshot (K.means s.below).shown ≡ true)
+  rest_parts s e =
+      let r = and_parts ((K.means s.below).wait == 0) (same_stamps s.snapshot (K.means s.below).shown) e in
+      (eqb-true (K.means s.below).wait 0 r.0, r.1)
 
   -- either it is, and there is no wait, or it waits for a copying
   wait_tells : (s : PollState K) → (Settled s × (poll_wait K s ≡ 0)) ⊎ ((Settled s → ⊥) × (poll_wait K s ≡ until_copied s))

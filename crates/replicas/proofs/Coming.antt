@@ -40,7 +40,7 @@ none_removed (x ∷ xs) e =
     cond-true (not (has_come x)) (x ∷ stay) stay (not_from_false (has_come x) p.0) ∙ ap (λ (l : List Delivery). x ∷ l) (none_removed xs p.1)
 
 -- deliveries are addressed, and lowering leaves where they go
-all_addressed : (ds : List Delivery) → ((d : Delivery) → In d ds → Addressed d) → AllByRecursion Addressed ds
+pub all_addressed : (ds : List Delivery) → ((d : Delivery) → In d ds → Addressed d) → AllByRecursion Addressed ds
 all_addressed [] f = tt
 all_addressed (d ∷ ds) f = (f d (inl refl), all_addressed ds (λ x i. f x (inr i)))
 

@@ -44,15 +44,23 @@ pub stamp_of_other : (key : ℕ) (v : Version) → (v.key ≢ key) → stamp_of 
 stamp_of_other key v ne = grind (arith, nat_tests)
 
 -- of a delivery, at a site and key
-abbrev way_of : ℕ → ℕ → Delivery → ℕ
+abbrev pub way_of : ℕ → ℕ → Delivery → ℕ
 way_of s k d = cond (d.site == s && d.version.key == k) d.version.stamp.number 0
 
+-- at its own site it is the stamp of its version
+pub way_here : (s k : ℕ) (d : Delivery) → d.site ≡ s → way_of s k d ≡ stamp_of k d.version
+way_here s k d e = grind (arith, nat_tests)
+
+-- and at another it is none
+pub way_there : (s k : ℕ) (d : Delivery) → (d.site ≢ s) → way_of s k d ≡ 0
+way_there s k d ne = grind (arith, nat_tests)
+
 -- a register holds what it held, or what came to it, and has the higher of both stamps
-came_one : (t : Sites) (d : Delivery) (s k : ℕ) (w : Version) → came_at t d.site d.version s k ≡ Some w
+pub came_one : (t : Sites) (d : Delivery) (s k : ℕ) (w : Version) → came_at t d.site d.version s k ≡ Some w
     → (t s k ≡ Some w) ⊎ ((w ≡ d.version) × (d.site ≡ s) × (d.version.key ≡ k))
 came_one t d s k w e = let at = simp cond_at at e in grind (arith, nat_tests)
 
-came_stamp : (t : Sites) (d : Delivery) (s k : ℕ) → held_stamp (came_at t d.site d.version s k) ≡ max (held_stamp (t s k)) (way_of s k d)
+pub came_stamp : (t : Sites) (d : Delivery) (s k : ℕ) → held_stamp (came_at t d.site d.version s k) ≡ max (held_stamp (t s k)) (way_of s k d)
 came_stamp t d s k = simp cond_at (grind (arith, nat_tests))
 
 -- registers after deliveries: the stamps
@@ -94,15 +102,15 @@ put_one ts site v t s k w e = at (line_time ts site s) e
     at line f = let g = simp cond_at at f in grind (arith, nat_tests)
 
 -- what is on its way: two lists in a row, lowered, and a list parted by a test
-way_append : (s k : ℕ) (xs ys : List Delivery) → on_the_way s k (xs ++ ys) ≡ max (on_the_way s k xs) (on_the_way s k ys)
+pub way_append : (s k : ℕ) (xs ys : List Delivery) → on_the_way s k (xs ++ ys) ≡ max (on_the_way s k xs) (on_the_way s k ys)
 way_append s k [] ys = omega arith
 way_append s k (x ∷ xs) ys = omega (arith, way_append s k xs ys)
 
-way_lowered : (s k : ℕ) (xs : List Delivery) → on_the_way s k (map lowered xs) ≡ on_the_way s k xs
+pub way_lowered : (s k : ℕ) (xs : List Delivery) → on_the_way s k (map lowered xs) ≡ on_the_way s k xs
 way_lowered s k [] = refl
 way_lowered s k (x ∷ xs) = ap (λ (n : ℕ). max (way_of s k x) n) (way_lowered s k xs)
 
-way_parted : (p : Delivery → Bool) (s k : ℕ) (xs : List Delivery)
+pub way_parted : (p : Delivery → Bool) (s k : ℕ) (xs : List Delivery)
     → on_the_way s k xs ≡ max (on_the_way s k (filter p xs)) (on_the_way s k (filter (λ d. not (p d)) xs))
 way_parted p s k [] = omega arith
 way_parted p s k (x ∷ xs) =

@@ -23,7 +23,7 @@ pub line_home : (ts : List ℕ) (site to : ℕ) → site ≡ to → line_time ts
 line_home ts site to e = grind (arith, nat_tests)
 
 -- where the line takes no tick nothing is sent later, else one delivery
-later_none : (ticks site : ℕ) (v : Version) → ticks ≡ 0 → sent_later ticks site v ≡ []
+pub later_none : (ticks site : ℕ) (v : Version) → ticks ≡ 0 → sent_later ticks site v ≡ []
 later_none ticks site v e = grind (arith, nat_tests)
 
 pub later_one : (ticks site : ℕ) (v : Version) → (ticks ≢ 0) → sent_later ticks site v ≡ record { version = v; site = site; left = ticks } ∷ []

@@ -26,7 +26,7 @@ use Rattle.replicas.specs.Forecasting.{delivered_one, from_kept, from_sent, put_
 use Rattle.replicas.specs.Sending.{sent_three}
 
 -- deliveries with no tick left are none
-most_none : (ds : List Delivery) → are_deliveries ds ≡ true → most_left ds ≡ 0 → ds ≡ []
+pub most_none : (ds : List Delivery) → are_deliveries ds ≡ true → most_left ds ≡ 0 → ds ≡ []
 most_none [] e z = refl
 most_none (x ∷ ds) e z = absurd (omega (arith, z, (fit_parts x (and_parts (is_delivery x) (are_deliveries ds) e).0).more))
 

@@ -1,5 +1,5 @@
 -- Tails: lists that hold versions, added to at the end and shortened at the front.
-use Rattle.std.specs.Prelude.{◌≡◌, ℕ, true, List, [], ◌∷◌, ◌++◌, take, drop, refl}
+use Rattle.std.specs.Prelude.{◌≡◌, ℕ, zero, suc, true, List, [], ◌∷◌, ◌++◌, take, drop, slice_set, refl}
 use Rattle.std.proofs.Common.{inl, inr, sym, ap, subst, ◌∙◌}
 use Rattle.std.proofs.lemmas.List.{take-append-drop}
 use Rattle.std.proofs.lemmas.List.Folds.{list_all-append}
@@ -15,6 +15,16 @@ pub versions_in : (vs : List Version) → are_versions vs ≡ true → (v : Vers
 versions_in [] all v i = absurd i
 versions_in (w ∷ vs) all v (inl e) = ap is_version e ∙ (and_parts (is_version w) (are_versions vs) all).0
 versions_in (w ∷ vs) all v (inr i) = versions_in vs (and_parts (is_version w) (are_versions vs) all).1 v i
+
+-- writing a version into it leaves versions
+pub versions_set : (vs : List Version) (n i : ℕ) (v : Version) → are_versions (take n vs) ≡ true → is_version v ≡ true
+    → are_versions (take n (slice_set vs i v)) ≡ true
+versions_set [] n i v all is = all
+versions_set (w ∷ vs) zero i v all is = refl
+versions_set (w ∷ vs) (suc n) zero v all is = and_from (is_version v) (are_versions (take n vs)) is (and_parts (is_version w) (are_versions (take n vs)) all).1
+versions_set (w ∷ vs) (suc n) (suc i) v all is =
+    let p = and_parts (is_version w) (are_versions (take n vs)) all in
+    and_from (is_version w) (are_versions (take n (slice_set vs i v))) p.0 (versions_set vs n i v p.1 is)
 
 -- with one version more it holds versions
 pub versions_push : (vs : List Version) (v : Version) → are_versions vs ≡ true → is_version v ≡ true → are_versions (vs ++ v ∷ []) ≡ true

@@ -1,6 +1,6 @@
 -- What is said of all numbers below n at once, and what it says of each.
 use Rattle.std.proofs.Common.{◌≡◌, ℕ, zero, suc, ◌+◌, ◌<◌, ◌≤◌, max, Bool, true, false, cond, not, ◌&&◌, eqb, ◌⊎◌, Decides, sym, refl, ap, ◌∙◌, ap₂, inl, inr, ⊎_elim, arith}
-use Rattle.std.proofs.lemmas.Bool.{cases_eq, cases_lt, and_cases, and_left, and_parts, both_ways, eq-eqb, not_from_true}
+use Rattle.std.proofs.lemmas.Bool.{cases_Bool, cases_eq, cases_lt, and_cases, and_left, and_parts, both_ways, eq-eqb, not_from_true}
 use Rattle.std.proofs.lemmas.Bool.Decides.{Decides-below_and}
 use Rattle.stamps.specs.Keys.{every_below, count_below, highest_below}
 
@@ -13,6 +13,16 @@ every_at n p = (every_decides n p).0
 
 pub every_from : (n : ℕ) (p : ℕ → Bool) → ((k : ℕ) → k < n → p k ≡ true) → every_below n p ≡ true
 every_from n p = (every_decides n p).1
+
+-- a test that fails below n is not passed by all
+pub every_not : (n : ℕ) (p : ℕ → Bool) (k : ℕ) → k < n → p k ≡ false → every_below n p ≡ false
+every_not n p k h f = elim (cases_Bool (every_below n p)) [ inl e ↦ absurd (both_ways (p k) f (every_at n p e k h)) | inr e ↦ e ]
+
+-- tests that agree below n pass alike
+pub every_same : (n : ℕ) (p q : ℕ → Bool) → ((k : ℕ) → k < n → p k ≡ q k) → every_below n p ≡ every_below n q
+unfolding every_below
+every_same zero p q h = refl
+every_same (suc n) p q h = ap₂ ◌&&◌ (h n (omega arith)) (every_same n p q (λ k l. h k (omega arith)))
 
 -- what a test adds to a count
 abbrev one : Bool → ℕ

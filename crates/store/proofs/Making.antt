@@ -16,10 +16,10 @@ pub unaltered_by : {X : Type 0} (means : X → Meaning) (before after : X) → a
 unaltered_by means before after e = subst (λ x. Unaltered (means before) (means x)) (sym e) (unaltered (means before))
 
 -- there is a bar or there is none
-bar_or_none : (b : Bar) → ◌≡◌ {A = Option Bar} (Some b) None → ⊥
+pub bar_or_none : (b : Bar) → ◌≡◌ {A = Option Bar} (Some b) None → ⊥
 bar_or_none b e = let z : ◌≡◌ {A = ℕ} 0 1 = cc in omega arith
 
-ok_or_err : (e : PutRefusal) → ◌≡◌ {A = PutAnswer} (Err e) (Ok tt) → ⊥
+pub ok_or_err : (e : PutRefusal) → ◌≡◌ {A = PutAnswer} (Err e) (Ok tt) → ⊥
 ok_or_err e p = let z : ◌≡◌ {A = ℕ} 0 1 = cc in omega arith
 
 -- what an accepted put means is all that is to be shown

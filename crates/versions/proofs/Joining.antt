@@ -37,7 +37,7 @@ module _ {X : Type 0} {proper : X → Type 0} {neutral : X} {op : X → X → X}
   from_least s [] b h g = h
   from_least s (x ∷ xs) b h g = from_least (op s x) xs b (laws.brackets s x b ∙ ap (op s) (g x (inl refl)) ∙ h) (λ y m. g y (inr m))
 
-  joined_proper : (s : X) (xs : List X) → proper s → AllProper proper xs → proper (joined_from op s xs)
+  pub joined_proper : (s : X) (xs : List X) → proper s → AllProper proper xs → proper (joined_from op s xs)
   joined_proper s [] p q = p
   joined_proper s (x ∷ xs) p q = joined_proper (op s x) xs (laws.proper_join s x p (q x (inl refl))) (λ y m. q y (inr m))
 
