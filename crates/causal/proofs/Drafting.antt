@@ -103,6 +103,12 @@ causes_count (suc n) t sale = grind (arith, common_steps, causes_count n t sale)
 
 -- ---- the row of a post
 
+-- at a key of the sale the reach of what is held there is joined after those before it
+pub row_more : (k : ℕ) (t : Table) (sale : ℕ → Bool) → sale k ≡ true
+    → row_of_post (causes_below (suc k) t sale) ≡ joined_from joined_rows (row_of_post (causes_below k t sale)) (map reach (option_to_list (t k)))
+unfolding causes_below
+row_more k t sale e = grind (arith, common_steps)
+
 -- joining the reaches of the causes left, the lowest one is joined first
 pub row_lowest : (row : Row) (t : Table) (sale others : ℕ → Bool) (key : ℕ) → key < keys → sale key ≡ true → ((k : ℕ) → k < key → sale k ≡ false)
     → ((k : ℕ) → others k ≡ (not (eqb k key) && sale k))

@@ -77,6 +77,10 @@ module _ (old answers : Table) where
     moved_at : (k : ℕ) → is_newer old new k ≡ chosen k
     moved_at k = let newer = largest.fits.all_newer k in grind (arith, nat_tests)
 
+    -- what is newer is what is put in, where that is newer, and the rest
+    split : (b n : Bool) → (b ≡ true → n ≡ true) → cond n 1 0 ≡ cond b 1 0 + cond (not b && n) 1 0
+    split b n h = grind (arith, nat_tests)
+
     -- a newer answer is put in, or newer still
     withheld_at : (k : ℕ) → cond (is_newer old answers k) 1 0 ≡ cond (chosen k) 1 0 + cond (is_newer new answers k) 1 0
     withheld_at k = let newer = largest.fits.all_newer k in grind (arith, nat_tests)

@@ -1,5 +1,5 @@
 -- The poll layer over any make of store that keeps the laws of every store keeps them too.
-use Rattle.std.specs.Prelude.{◌≡◌, ℕ, ◌-◌, ◌≤◌, ◌⊎◌, Bool, true, cond, ◌&&◌, List, ◌++◌, Some, None, Option, ◌==◌, refl}
+use Rattle.std.specs.Prelude.{◌≡◌, ℕ, ◌-◌, ◌≤◌, ◌⊎◌, Bool, true, false, cond, ◌&&◌, List, ◌++◌, Some, None, Option, ◌==◌, ◌≢◌, refl}
 use Rattle.std.proofs.Common.{rules, inl, inr, ⊎_elim, sym, ap, ap₂, subst, ◌∙◌, arith}
 use Rattle.std.proofs.lemmas.Bool.{cases_Bool, cases_eq, cond-true, cond-false, eqb-true, and_parts}
 use Rattle.std.proofs.lemmas.Bool.Decides.{Decides-and, Decides-eqb, not_from_Decides}
@@ -43,6 +43,10 @@ module _ (K : Kind) where
   rest_parts s e =
       let r = and_parts ((K.means s.below).wait == 0) (same_stamps s.snapshot (K.means s.below).shown) e in
       (eqb-true (K.means s.below).wait 0 r.0, r.1)
+
+  -- while there is a wait below the test fails
+  not_rest : (s : PollState K) → ((K.means s.below).wait ≢ 0) → poll_settled K s ≡ false
+  not_rest s some = ⊎_elim (λ e. absurd (some (rest_parts s e).0)) (λ f. f) (cases_Bool (poll_settled K s))
 
   -- either it is, and there is no wait, or it waits for a copying
   wait_tells : (s : PollState K) → (Settled s × (poll_wait K s ≡ 0)) ⊎ ((Settled s → ⊥) × (poll_wait K s ≡ until_copied s))
