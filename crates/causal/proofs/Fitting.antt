@@ -77,7 +77,7 @@ module _ (old answers : Table) where
     moved_at : (k : ℕ) → is_newer old new k ≡ chosen k
     moved_at k = let newer = largest.fits.all_newer k in grind (arith, nat_tests)
 
-    -- what is newer is what is put in, where that is newer, and the rest
+    -- a test that passes wherever another does counts what the other counts, and the rest
     split : (b n : Bool) → (b ≡ true → n ≡ true) → cond n 1 0 ≡ cond b 1 0 + cond (not b && n) 1 0
     split b n h = grind (arith, nat_tests)
 

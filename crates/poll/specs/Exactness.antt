@@ -10,7 +10,7 @@ use Rattle.poll.specs.Poll.{poll_kind, answer_passed_up}
 pub poll_one : (K : Kind) → EachStepHasOneOutcome K → EachStepHasOneOutcome (poll_kind K)
 poll_one K below = search rules
 
--- what is refused above was refused below
+-- a refusal above is a refusal below, which left the state there as it was
 pub refused : (K : Kind) → RefusedKeeps K → (s : K.State) (site : ℕ) (v : Version) (a : PutAnswer) (e : PutRefusal) (t : K.State)
     → K.stored s site v a t → Err e ≡ answer_passed_up a → t ≡ s
 refused K keeps s site v (Ok done) e t put same = cc

@@ -38,13 +38,13 @@ module _ (K : Kind) where
   abbrev Settled : PollState K → Type 0
   Settled s = ((K.means s.below).wait ≡ 0) × SameStamps s.snapshot (K.means s.below).shown
 
-  -- settled by its test: there is no wait below, and the stamps are the same by theirs
+  -- a layer that passes the test has no wait below and passes the test of stamps
   rest_parts : (s : PollState K) → poll_settled K s ≡ true → ((K.means s.below).wait ≡ 0) × (same_stamps s.snapshot (K.means s.below).shown ≡ true)
   rest_parts s e =
       let r = and_parts ((K.means s.below).wait == 0) (same_stamps s.snapshot (K.means s.below).shown) e in
       (eqb-true (K.means s.below).wait 0 r.0, r.1)
 
-  -- while there is a wait below the test fails
+  -- while there is a wait below it fails the test
   not_rest : (s : PollState K) → ((K.means s.below).wait ≢ 0) → poll_settled K s ≡ false
   not_rest s some = ⊎_elim (λ e. absurd (some (rest_parts s e).0)) (λ f. f) (cases_Bool (poll_settled K s))
 

@@ -23,10 +23,11 @@ pub came_append : (t : Table) (vs ws : List Version) → came_all t (vs ++ ws) �
 came_append t [] ws = refl
 came_append t (v ∷ vs) ws = came_append (came_to t v) vs ws
 
--- what comes to a register depends on nothing but what it holds
+-- what a register holds once a version has come depends on nothing but what it held
 pub came_same : (t u : Table) (v : Version) (k : ℕ) → t k ≡ u k → came_to t v k ≡ came_to u v k
 came_same t u v k e = ap (λ (o : Option Version). taken_at k o v) e
 
+-- and so once several have
 pub came_all_same : (t u : Table) (vs : List Version) (k : ℕ) → t k ≡ u k → came_all t vs k ≡ came_all u vs k
 came_all_same t u [] k e = e
 came_all_same t u (v ∷ vs) k e = came_all_same (came_to t v) (came_to u v) vs k (came_same t u v k e)

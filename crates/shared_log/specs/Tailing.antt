@@ -16,7 +16,7 @@ versions_in [] all v i = absurd i
 versions_in (w ∷ vs) all v (inl e) = ap is_version e ∙ (and_parts (is_version w) (are_versions vs) all).0
 versions_in (w ∷ vs) all v (inr i) = versions_in vs (and_parts (is_version w) (are_versions vs) all).1 v i
 
--- and the other way round
+-- and a list each member of which is a version is such a list
 pub versions_from : (vs : List Version) → ((v : Version) → In v vs → is_version v ≡ true) → are_versions vs ≡ true
 versions_from [] all = refl
 versions_from (w ∷ vs) all = and_from (is_version w) (are_versions vs) (all w (inl refl)) (versions_from vs (λ v i. all v (inr i)))
